@@ -1,11 +1,15 @@
 -- What is kept of a pack says what it is, and whether it is active.
 use Rattle.std.specs.Prelude.{◌≡◌, ◌∷◌, ◌==◌, ◌⊎◌}
-use Rattle.mv_repository.proofs.Words.{ℕ, List, [], refl, sym, ◌∙◌, ap, arith, true, false, cond, cond_both, Option, Some, None, IfSome, filter, fold, inl, inr, get_or, nat_tests, option_map, option_map_or, unwrap_or, PackKey, LogEntry, distinct_count, is_same_pack, is_held_active, uploaded_packs, Placed, ordered, is_active, is_done, pack_state, held_of, standing_in, known_at, effect_on, next_by, FirstStops, first_stops, entry_at, place_of, no_entry, is_upload_of, is_status_of, statuses_of, pack_grown, track_of, held_at, option_and_then, is_active_kept}
+use Rattle.mv_repository.proofs.Words.{ℕ, List, [], refl, sym, ◌∙◌, ap, arith, true, false, cond, cond_both, Option, Some, None, IfSome, filter, fold, inl, inr, get_or, nat_tests, option_map, option_map_or, unwrap_or, Held, PackKey, LogEntry, distinct_count, is_same_pack, uploaded_packs, Placed, ordered, is_active, is_done, pack_state, held_of, standing_in, known_at, effect_on, next_by, FirstStops, first_stops, entry_at, place_of, no_entry, is_upload_of, is_status_of, statuses_of, pack_grown, track_of, held_at, option_and_then, Bool, Active, is_counted}
 use Rattle.mv_repository.proofs.OrderLemmas.{Stand, find-true, ordered-ascends, ordered-stand}
 use Rattle.mv_repository.proofs.StateLemmas.{known-grown, entry-stands, find-stand}
 use Rattle.mv_repository.proofs.TableLemmas.{filter-stand}
 use Rattle.mv_repository.proofs.NextLemmas.{grown-by}
 use Rattle.mv_repository.proofs.TrackLemmas.{fold-stands}
+
+-- a pack is held, and active
+abbrev is_held_active : Option Held → Bool
+is_held_active held = option_map_or (λ (pack : Held). is_active pack.standing) held false
 
 -- a pack stands by its upload, or by a status that is no revert
 abbrev Settled : Placed → Placed → Type 0
@@ -46,10 +50,10 @@ module _ (log : List LogEntry) (pack : PackKey) where
   active-birth (Some y) s u = grind (arith, nat_tests, fold-settled S pack.gtin y y own (inl refl), fold-stands log S pack.gtin y y own s s own-stand, grown-by)
 
   -- it is active where it stands by its upload
-  pub track-active : is_active_kept (track_of pack log) ≡ is_held_active (pack_state pack log)
+  pub track-active : is_counted Active (track_of pack log) ≡ is_held_active (pack_state pack log)
   track-active = grind (arith, nat_tests, active-birth, find-stand, find-true (λ placed. is_upload_of pack placed.entry.item) (ordered log), known-grown, ordered-ascends, ordered-stand)
 
 -- the packs that are active, by what is kept and by the log
-pub active-all : (log : List LogEntry) → distinct_count is_same_pack (filter (λ pack. is_active_kept (track_of pack log)) (uploaded_packs log))
+pub active-all : (log : List LogEntry) → distinct_count is_same_pack (filter (λ pack. is_counted Active (track_of pack log)) (uploaded_packs log))
     ≡ distinct_count is_same_pack (filter (λ pack. is_held_active (pack_state pack log)) (uploaded_packs log))
 active-all log i = distinct_count is_same_pack (filter (λ pack. track-active log pack i) (uploaded_packs log))

@@ -1,7 +1,7 @@
 -- Blocks of statuses, over any places and any rule by which a pack goes from one to the next.
 use Rattle.std.proofs.lemmas.Grind.{elements}
-use Rattle.std.specs.Prelude.{◌≡◌, ◌+◌, ◌-◌, ◌<◌, ◌≤◌, ◌∷◌, ◌++◌, ◌||◌, ◌==◌}
-use Rattle.mv_repository.proofs.Words.{ℕ, zero, suc, List, [], length, get_or, take, drop, fold, insert, set, sym, ◌∙◌, ap, subst, true, arith, append-nil, append_assoc, nat_tests, take-add, at_drop_more, drop-drop, drop_at, drop_of_length-le, get_or_default, length-take-le, take-append-drop, take-append-le, take_all, take_at, take_more, take_more_set, drop-append-le, length-drop, length-append, fold-append, AllByRecursion, has_party, PartySet, Block, Cut, may_have, IsCovered, IsSummary, AreBlocks, IsFront, IsCut, without, Placed, common_steps}
+use Rattle.std.specs.Prelude.{◌≡◌, ◌+◌, ◌-◌, ◌<◌, ◌≤◌, ◌∷◌, ◌++◌, ◌||◌, ◌==◌, ◌%◌}
+use Rattle.mv_repository.proofs.Words.{ℕ, zero, suc, List, [], length, get_or, take, drop, fold, insert, set, sym, ◌∙◌, ap, subst, true, arith, append-nil, append_assoc, nat_tests, take-add, at_drop_more, drop-drop, drop_at, drop_of_length-le, get_or_default, length-take-le, take-append-drop, take-append-le, take_all, take_at, take_more, take_more_set, drop-append-le, length-drop, length-append, fold-append, AllByRecursion, has_party, PartySet, Block, Cut, PARTIES_LIMIT, IsCovered, IsSummary, AreBlocks, IsFront, IsCut, without, Placed, common_steps}
 
 -- lists that are cut
 cut-take : {A : Type 0} (n : ℕ) (xs ys : List A) → n ≤ length xs → take n (take n xs ++ ys) ≡ take n xs
@@ -34,7 +34,8 @@ pub has-added : (set more : PartySet) (party : ℕ) → ((other : ℕ) → has_p
 has-added set more party h = let e = h party in grind (arith, nat_tests)
 
 -- the senders of reverts, of one status more
-pub covered-more : (entry : ℕ → Placed) (reverters more : PartySet) (own : List ℕ) (i : ℕ) → i < length own → ((other : ℕ) → may_have reverters other ≡ true → may_have more other ≡ true)
+pub covered-more : (entry : ℕ → Placed) (reverters more : PartySet) (own : List ℕ) (i : ℕ) → i < length own
+    → ((other : ℕ) → has_party reverters (other % PARTIES_LIMIT) ≡ true → has_party more (other % PARTIES_LIMIT) ≡ true)
     → IsCovered more (entry (get_or own i 0)) → AllByRecursion (λ place. IsCovered reverters (entry place)) (take i own) → AllByRecursion (λ place. IsCovered more (entry place)) (take (i + 1) own)
 covered-more entry reverters more [] i l m new c = absurd (omega arith)
 covered-more entry reverters more (x ∷ xs) zero l m new c = (new, tt)

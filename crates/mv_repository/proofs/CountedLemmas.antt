@@ -110,7 +110,7 @@ module _ (counted : Counted) where
   all-counted log tables are d keyed =
       length-from_keys pack-equiv (packs_counted counted tables.shelves.entries) (filter test (uploaded_packs log)) (in-distinct tables.shelves.entries d keyed)
       (λ q. in-shelves tables.shelves.entries d keyed q ∙ counted-bare counted (kept_in (shelf_of q.gtin tables.shelves.entries) q.serial)
-      ∙ ap (is_counted counted) (are.shelves q.gtin q.serial).kept.bare
+      ∙ ap (is_counted counted) ((are.shelves q.gtin).packs q.serial).kept.bare
       ∙ sym (is_member-filter pack-equiv test q (λ y e. ap test (same_pack q y e)) (uploaded_packs log) ∙ ap (λ b. b && test q) (sym (uploaded-found log q)) ∙ there q (test q) refl))
     where
       test : PackKey → Bool

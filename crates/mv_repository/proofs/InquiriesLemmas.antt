@@ -1,6 +1,10 @@
 -- Lemmas on what a log says of its party's queries.
 use Rattle.std.specs.Prelude.{◌≡◌, ◌∷◌, ◌++◌, ◌&&◌, ◌||◌, ◌==◌}
-use Rattle.mv_repository.proofs.Words.{arith, nat_tests, ℕ, List, [], ◌∙◌, ap, Bool, false, cond, Option, Some, None, is_some, length, list_any, option_or, option_map_or, or-false, list_any-append, Found, Message, Item, Receipt, Carried, LogEntry, Inquiries, Inquiry, asked_parties, finding_in, has_answered, found_active, found_explained, joint_verdict, sym, query_of, inquiry_after, inquiry_in, has_reply, inquiry_of, IsInquiriesOf, query_reach, verdict_when, not, filter, Decided}
+use Rattle.mv_repository.proofs.Words.{arith, nat_tests, refl, ℕ, List, [], ◌∙◌, ap, Bool, false, cond, Option, Some, None, is_some, length, list_any, option_or, option_map_or, or-false, list_any-append, Found, Message, Item, Receipt, Carried, LogEntry, Inquiries, Inquiry, asked_parties, finding_in, has_answered, found_active, found_explained, joint_verdict, sym, query_of, inquiry_after, lookup, nat_eq, no_inquiry, unwrap_or, has_reply, inquiry_of, IsInquiriesOf, query_reach, verdict_when, not, filter, Decided}
+
+-- what is kept of a query, if only nothing
+abbrev pub inquiry_in : Inquiries → ℕ → Inquiry
+inquiry_in known q = unwrap_or (lookup (nat_eq q) known.inquiries.entries) no_inquiry
 
 -- there is a finding, and it is so
 abbrev is_found_so : (Found → Bool) → Option Found → Bool
@@ -52,12 +56,13 @@ pub known_stays : (party : ℕ) (log : List LogEntry) (sender : ℕ) (item : Ite
 known_stays party log sender item known nothing is = grind (arith, nat_tests, inquiry-more, or-false, replies-more)
 
 -- an item that tells of a query: its receipt, and an answer to it
-pub receipt_noted : (party : ℕ) (log : List LogEntry) (sender : ℕ) (item : Item) (asked : ℕ) (known known' : Inquiries) (k : ℕ) (reach : List ℕ) (query : Bool)
-    → item ≡ Receipt k reach query → query_of party sender item ≡ Some asked
+pub receipt_noted : (party : ℕ) (log : List LogEntry) (sender : ℕ) (item : Item) (asked : ℕ) (known known' : Inquiries)
+    → ((k stamp : ℕ) (message : Message) → item ≡ Carried k stamp message → ⊥) → query_of party sender item ≡ Some asked
     → ((q : ℕ) → inquiry_in known' q ≡ cond (asked == q) (inquiry_after item (inquiry_in known q)) (inquiry_in known q))
     → ((q other : ℕ) → has_reply known' q other ≡ has_reply known q other)
     → IsInquiriesOf party log known → IsInquiriesOf party (with_entry log sender item) known'
-receipt_noted party log sender item asked known known' k reach query form told inquiries replies is = grind (arith, nat_tests, inquiry-more, replies-more)
+receipt_noted party log sender (Receipt k reach query) asked known known' form told inquiries replies is = grind (arith, nat_tests, inquiry-more, replies-more)
+receipt_noted party log sender (Carried k stamp message) asked known known' form told inquiries replies is = absurd (form k stamp message refl)
 
 pub answer_noted : (party : ℕ) (log : List LogEntry) (sender : ℕ) (item : Item) (asked : ℕ) (known known' : Inquiries) (k stamp : ℕ) (message : Message)
     → item ≡ Carried k stamp message → query_of party sender item ≡ Some asked

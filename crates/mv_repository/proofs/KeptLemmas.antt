@@ -1,6 +1,10 @@
 -- Lemmas on the table of packs.
 use Rattle.std.specs.Prelude.{◌≡◌, ◌&&◌}
-use Rattle.mv_repository.proofs.Words.{bytes_eq, ℕ, List, sym, true, same_text, nat_list_eq_equiv, PackKey, BatchKey, is_same_pack, is_same_batch, pack_key, batch_key, and_parts}
+use Rattle.mv_repository.proofs.Words.{bytes_eq, ℕ, List, Option, option_and_then, sym, true, same_text, nat_list_eq_equiv, PackKey, BatchKey, is_same_pack, is_same_batch, pack_key, batch_key, and_parts, Life, Placed, made_batch}
+
+-- the batch of the upload that made a pack
+abbrev pub life_batch : Life → Option (List ℕ)
+life_batch life = option_and_then (λ (placed : Placed). made_batch placed.entry.item) life.birth
 
 -- keys that pass the test are one
 pub same_pack : (a b : PackKey) → is_same_pack a b ≡ true → a ≡ b

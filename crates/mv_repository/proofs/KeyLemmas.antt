@@ -1,6 +1,6 @@
 -- The counts of a log that its tables of keys give.
 use Rattle.std.specs.Prelude.{◌≡◌, ◌∷◌, ◌&&◌, ◌||◌}
-use Rattle.mv_repository.proofs.Words.{bytes_eq, ℕ, List, [], length, sym, ◌∙◌, ap, Bool, cond, Option, None, is_some, filter, length-keys_of, length-from_keys, is_some-lookup, IsEquivalence, nat_list_eq_equiv, list_any, flat_map, IsDistinct, last_or, lookup, keys_of, distinct_count, is_member, Item, is_same_batch, BatchKey, LogEntry, mastered_in, recalled_in, is_master, last_in, AreMastersOf, Placed, ordered, is_recall_of, Stops, AreStopsOf, place_of, arith, nat_tests}
+use Rattle.mv_repository.proofs.Words.{bytes_eq, ℕ, List, [], length, sym, ◌∙◌, ap, Bool, cond, Option, None, is_some, filter, length-keys_of, length-from_keys, is_some-lookup, IsEquivalence, nat_list_eq_equiv, list_any, flat_map, IsDistinct, last_or, lookup, keys_of, distinct_count, is_member, Item, is_same_batch, BatchKey, LogEntry, mastered_in, recalled_in, is_master, AreMastersOf, Placed, ordered, is_recall_of, Stops, AreStopsOf, place_of, arith, nat_tests}
 use Rattle.mv_repository.proofs.KeptLemmas.{text-sym, text-self, same_batch}
 use Rattle.mv_repository.proofs.UploadedLemmas.{any-ordered, any-flat, found-any, some-map}
 
@@ -25,7 +25,7 @@ last-found f last (y ∷ ys) = by (f y) (λ o. last-found f o ys)
 pub count-products : (log : List LogEntry) (masters : List (List ℕ × ℕ)) → IsDistinct bytes_eq (keys_of masters) → AreMastersOf log masters → length masters ≡ distinct_count bytes_eq (flat_map (λ entry. mastered_in entry.item) log)
 count-products log masters distinct places =
     counted-once nat_list_eq_equiv masters (flat_map (λ entry. mastered_in entry.item) log) distinct
-    (λ gtin. ap is_some (places gtin) ∙ some-map place_of (last_in log (λ placed. is_master gtin placed.entry.item)) ∙ last-found (λ placed. is_master gtin placed.entry.item) None (ordered log) ∙ any-ordered (is_master gtin) log
+    (λ gtin. ap is_some (places gtin) ∙ some-map place_of (last_or None (filter (λ placed. is_master gtin placed.entry.item) (ordered log))) ∙ last-found (λ placed. is_master gtin placed.entry.item) None (ordered log) ∙ any-ordered (is_master gtin) log
     ∙ sym (any-flat (bytes_eq gtin) mastered_in (is_master gtin) (mastered-is gtin) log))
 
 batch-equiv : IsEquivalence is_same_batch

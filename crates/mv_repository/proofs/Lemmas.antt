@@ -1,9 +1,12 @@
 -- The names and the lemmas that answers cite, passed on from one place. Declares nothing.
-pub use Rattle.mv_repository.proofs.Words.{AllByRecursion, AreAt, AreBlocks, AreStopsOf, Bool, Decided, IfSome, IsCovered, IsKept, IsShelfOf, IsUploadOf, Kept, List, LogEntry, None, Option, Own, PARTIES_LIMIT, PartySet, ShelfTable, Slot, Some, [], ap, arith, batch_at, bytes_eq, comes_first, common_steps, cond, effect_in, effect_of, effect_on, entry_at, entry_in, false, filter, fold, get_or, get_or_append_left, get_or_default, get_or_push, has_party, has_reply, history_of, inquiry_in, insert, is_active, is_listed, is_status_of, kept_by, kept_in, length, life_batch, life_of, lists, lookup, may_stop, min, nat_tests, next_in, next_place, no_entry, no_shelf, not, nothing_kept, option_and_then, option_map, ordered, pack_key, pack_state, places_before, put_place, refl, rules, shelf_of, spare, standing_in, start_in, stopped_product, stops_in, subst, sym, take, take-append-drop, take_all, take_at, track_of, true, true≢false, unwrap_or, without, ℕ, ◌∙◌}
+pub use Rattle.mv_repository.proofs.Words.{AllByRecursion, AreAt, AreBlocks, AreStopsOf, Bool, Decided, IfSome, IsCovered, IsKept, IsShelfOf, IsUploadOf, Kept, List, LogEntry, None, Option, Made, Own, PARTIES_LIMIT, PartySet, ShelfTable, Slot, Some, [], ap, arith, batch_at, bytes_eq, comes_first, common_steps, cond, effect_in, effect_of, effect_on, entry_at, entry_in, false, filter, fold, fold-append, get_or, get_or_append_left, get_or_default, get_or_push, has_party, has_reply, history_of, insert, insert_key, is_active, is_listed, is_status_of, kept_by, kept_in, keys_of, length, life_of, lists, lookup, may_stop, min, nat_tests, next_in, next_place, no_entry, no_shelf, not, nothing_kept, option_and_then, option_map, ordered, pack_state, refl, rules, serials_of, shelf_of, spare, standing_in, start_in, stopped_product, stops_in, subst, sym, take, take-append-drop, take_all, take_at, take_more, track_of, true, true≢false, unwrap_or, without, ℕ, ◌∙◌}
 pub use Rattle.mv_repository.proofs.OrderLemmas.{ordered-ascends}
 pub use Rattle.mv_repository.proofs.StateLemmas.{known-grown}
-pub use Rattle.mv_repository.proofs.PlaceLemmas.{parted, place_cut, stays_at}
+pub use Rattle.mv_repository.proofs.PlaceLemmas.{IsCutFor, not_twice, parted, stays_at}
+pub use Rattle.mv_repository.proofs.KeptLemmas.{life_batch, text-self}
+pub use Rattle.mv_repository.proofs.StoppedLemmas.{key_added, key_there}
 pub use Rattle.mv_repository.proofs.TableLemmas.{log-length, log-split, longer}
+pub use Rattle.mv_repository.proofs.SerialLemmas.{serials-at, upload-serials}
 pub use Rattle.mv_repository.proofs.NextLemmas.{own-passed}
 pub use Rattle.mv_repository.proofs.BlockLemmas.{covered-more, cut-next, fold-cut, has-added, last-blocks, late-before, late-within, late-front, late-fold, pass-after, pass-behind, pass-front, renewed, without-insert}
 pub use Rattle.mv_repository.proofs.TrackLemmas.{put-ascend, put-blocks, put-standing, put-status, status-form}
@@ -18,5 +21,5 @@ pub use Rattle.mv_repository.proofs.StopLemmas.{recall-added, stop-away, stop-do
 pub use Rattle.mv_repository.proofs.FormLemmas.{map_err, master-form, masters-at, named-at, none-noted, on_err, on_map, other-noted, same-at, shelves-at, stops-at, tables-noted}
 pub use Rattle.mv_repository.proofs.KeyLemmas.{count-products, count-recalled}
 pub use Rattle.mv_repository.proofs.ProductLemmas.{comes_late, masters-late-at, masters-latest-at, product_found}
-pub use Rattle.mv_repository.proofs.InquiriesLemmas.{answer_noted, known_stays, receipt_noted, tells_nothing, verdict_known}
+pub use Rattle.mv_repository.proofs.InquiriesLemmas.{answer_noted, inquiry_in, known_stays, receipt_noted, tells_nothing, verdict_known}
 pub use Rattle.mv_repository.proofs.LentLemmas.{history-at, lent-places}

@@ -6,6 +6,7 @@ pub mod PlaceLemmas
 pub mod KeptLemmas
 pub mod StoppedLemmas
 pub mod TableLemmas
+pub mod SerialLemmas
 pub mod NextLemmas
 pub mod BlockLemmas
 pub mod TrackLemmas

@@ -1,6 +1,6 @@
 -- What `next` gives is one step of the pack's state, so the place of one entry is all that has to be kept of it.
-use Rattle.std.specs.Prelude.{◌≡◌, ◌∷◌}
-use Rattle.mv_repository.proofs.Words.{ℕ, List, [], refl, Bool, true, false, cond, Option, Some, None, fold, AllByRecursion, option_map, PackKey, BatchKey, Standing, Status, Item, Carried, LogEntry, PartySet, batch_key, may_have, IsCovered, BatchStanding, Placed, KnownPack, is_active, is_done, change_effect, pack_made_by, standing_in, change_in, known_at, effect_from, message_in, next_by, next_place, FirstStops, standing_at, entry_at, pack_changed, pack_step, pack_grown, arith, nat_tests}
+use Rattle.std.specs.Prelude.{◌≡◌, ◌∷◌, ◌%◌}
+use Rattle.mv_repository.proofs.Words.{ℕ, List, [], refl, Bool, true, false, cond, Option, Some, None, fold, AllByRecursion, option_map, PackKey, BatchKey, Standing, Status, Item, Carried, LogEntry, PartySet, batch_key, has_party, PARTIES_LIMIT, IsCovered, BatchStanding, Placed, KnownPack, is_active, is_done, change_effect, pack_made_by, standing_in, change_in, known_at, effect_from, message_in, next_by, next_place, FirstStops, standing_at, entry_at, pack_changed, pack_step, pack_grown, arith, nat_tests}
 use Rattle.mv_repository.specs.declared.effect.Effect.TheVariants as effects
 
 pub born : (birth : Placed) → known_at birth birth ≡ pack_made_by birth.entry.item
@@ -51,7 +51,7 @@ grown-by stops pack birth xs = grind (arith, nat_tests, born, grown-from)
 
 -- so it does by many
 pub own-passed : (log : List LogEntry) (stops : FirstStops) (gtin : List ℕ) (birth : Option ℕ) (by : ℕ) (own : List ℕ) (reverters : PartySet)
-    → is_active (standing_in (entry_at log by).entry.item) ≡ false → may_have reverters (entry_at log by).entry.sender ≡ false
+    → is_active (standing_in (entry_at log by).entry.item) ≡ false → has_party reverters ((entry_at log by).entry.sender % PARTIES_LIMIT) ≡ false
     → AllByRecursion (λ place. IsCovered reverters (entry_at log place)) own → fold (next_place log stops gtin birth) by own ≡ by
 own-passed log stops gtin birth by [] reverters changed none covered = refl
 own-passed log stops gtin birth by (place ∷ own) reverters changed none covered = grind (arith, nat_tests, own-passed log stops gtin birth by own reverters changed none covered.1)

@@ -1,41 +1,42 @@
 -- What is kept of all packs, by what is kept of those of each product.
-use Rattle.std.specs.Prelude.{◌≡◌, ◌+◌, ◌&&◌}
-use Rattle.mv_repository.proofs.Words.{bytes_eq, ℕ, List, [], length, get_or, take, sym, ◌∙◌, ap, arith, subst, true, false, Option, lookup, unwrap_or, Item, pack_key, PackKey, LogEntry, uploaded_in, uploaded_packs, ShelfTable, kept_in, IsPackOf, IsShelfOf, IsUploadOf, no_shelf, shelf_of, no_entry, Life, is_upload_of, is_status_of, life_of, track_of, bare, nat_tests, common_steps}
+use Rattle.std.specs.Prelude.{◌≡◌, ◌+◌, ◌∷◌, ◌&&◌}
+use Rattle.mv_repository.proofs.Words.{bytes_eq, ℕ, List, [], length, get_or, take, sym, ◌∙◌, ap, arith, cond, true, false, Option, lookup, unwrap_or, Item, pack_key, PackKey, LogEntry, uploaded_in, uploaded_packs, ShelfTable, kept_in, IsShelfOf, IsUploadOf, no_shelf, shelf_of, no_entry, is_upload_of, is_status_of, life_of, track_of, bare, nat_tests, common_steps}
 use Rattle.mv_repository.proofs.TableLemmas.{longer, log-split}
+use Rattle.mv_repository.proofs.SerialLemmas.{AreSamePacks, serials-at, status-serials, upload-serials}
 use Rattle.mv_repository.proofs.TrackLemmas.{status-form}
 use Rattle.mv_repository.proofs.UploadLemmas.{upload-form, untouched}
-
--- a shelf on whose packs the newest entry does not bear
-pub shelf-stays : (whole before : List LogEntry) (gtin : List ℕ) (shelf : ShelfTable)
-    → ((serial : List ℕ) → life_of (pack_key gtin serial) whole ≡ life_of (pack_key gtin serial) before) → IsShelfOf before gtin shelf → IsShelfOf whole gtin shelf
-shelf-stays whole before gtin shelf same of serial = subst (λ (l : Life). IsPackOf l shelf serial) (sym (same serial)) (of serial)
 
 -- what is kept of a pack, on the shelf of its product if it has one
 pub kept-found : (log : List LogEntry) (shelves : List (List ℕ × ShelfTable)) (pack : PackKey) (shelf : Option ShelfTable) → lookup (bytes_eq pack.gtin) shelves ≡ shelf
     → IsShelfOf log pack.gtin (shelf_of pack.gtin shelves) → bare (kept_in (unwrap_or shelf no_shelf) pack.serial) ≡ track_of pack log
-kept-found log shelves pack shelf e of = grind (arith, nat_tests)
+kept-found log shelves pack shelf e of = ap (λ (o : Option ShelfTable). bare (kept_in (unwrap_or o no_shelf) pack.serial)) (sym e) ∙ (of.packs pack.serial).kept.bare
 
 -- an upload, and a status, of one product bears on no other
 pub upload-away : (whole : List LogEntry) (place : ℕ) (gtin : List ℕ) (serials : List (List ℕ)) → length whole ≡ place + 1 → IsUploadOf (get_or whole place no_entry).item gtin serials
-    → (other serial : List ℕ) → bytes_eq gtin other ≡ false → life_of (pack_key other serial) whole ≡ life_of (pack_key other serial) (take place whole)
-upload-away whole place gtin serials l upload other serial e =
-    ap (life_of (pack_key other serial)) (log-split whole place l)
-    ∙ untouched (take place whole) entry (pack_key other serial) (is entry.item upload)
-    ((upload-form entry.item gtin serials upload).0 (pack_key other serial)) (upload-form entry.item gtin serials upload).1
+    → (other : List ℕ) → bytes_eq gtin other ≡ false → AreSamePacks whole (take place whole) other
+upload-away whole place gtin serials l upload other e = (
+  λ serial. ap (life_of (pack_key other serial)) (log-split whole place l)
+      ∙ untouched (take place whole) entry (pack_key other serial) (is serial entry.item upload)
+      ((upload-form entry.item gtin serials upload).0 (pack_key other serial)) (upload-form entry.item gtin serials upload).1,
+  serials-at whole place other [] l (upload-serials other gtin serials entry.item upload ∙ ap (λ b. cond b serials []) e),
+)
   where
     entry : LogEntry
     entry = get_or whole place no_entry
 
-    is : (item : Item) → IsUploadOf item gtin serials → is_upload_of (pack_key other serial) item ≡ false
-    is item u = grind (arith, nat_tests)
+    is : (serial : List ℕ) (item : Item) → IsUploadOf item gtin serials → is_upload_of (pack_key other serial) item ≡ false
+    is serial item u = grind (arith, nat_tests)
 
 pub status-away : (whole : List LogEntry) (place : ℕ) (pack : PackKey) → length whole ≡ place + 1 → is_status_of pack (get_or whole place no_entry).item ≡ true
-    → (other serial : List ℕ) → bytes_eq pack.gtin other ≡ false → life_of (pack_key other serial) whole ≡ life_of (pack_key other serial) (take place whole)
-status-away whole place pack l own other serial e =
-    let form = status-form pack (get_or whole place no_entry).item own in
-    let only = form.0 (pack_key other serial) in
-    ap (life_of (pack_key other serial)) (log-split whole place l)
-    ∙ untouched (take place whole) (get_or whole place no_entry) (pack_key other serial) only.0 (only.1 ∙ (λ i. e i && bytes_eq pack.serial serial)) form.1
+    → (other : List ℕ) → bytes_eq pack.gtin other ≡ false → AreSamePacks whole (take place whole) other
+status-away whole place pack l own other e = (
+  λ serial.
+      let form = status-form pack (get_or whole place no_entry).item own in
+      let only = form.0 (pack_key other serial) in
+      ap (life_of (pack_key other serial)) (log-split whole place l)
+      ∙ untouched (take place whole) (get_or whole place no_entry) (pack_key other serial) only.0 (only.1 ∙ (λ i. e i && bytes_eq pack.serial serial)) form.1,
+  serials-at whole place other [] l (status-serials other pack (get_or whole place no_entry).item own ∙ ap (λ b. cond b (pack.serial ∷ []) []) e),
+)
 
 -- an entry that uploads nothing names no pack more
 pub none-named : (log : List LogEntry) (entry : LogEntry) (named : ℕ) → uploaded_in entry.item ≡ [] → named ≡ length (uploaded_packs log) → (whole : List LogEntry) → whole ≡ longer log entry

@@ -1,7 +1,7 @@
 -- Lemmas on the last master of a code, and on the table that finds it.
 use Rattle.std.proofs.Common.{rules}
 use Rattle.std.specs.Prelude.{◌≡◌, ◌+◌, ◌∷◌}
-use Rattle.mv_repository.proofs.Words.{bytes_eq, ℕ, List, [], length, get_or, take, refl, sym, ◌∙◌, ap, Bool, true, false, cond, cond_both, Option, Some, None, IfSome, filter, same_text, filter_map, last_or, cons_option, lookup, option_map, option_and_then, Item, Master, Product, LogEntry, is_master, last_in, AreMastersOf, Message, message_in, entry_at, Placed, passes, put_in, ordered, Ascends, product_under, product_of, place_of, no_entry, arith, nat_tests, option_map_or}
+use Rattle.mv_repository.proofs.Words.{bytes_eq, ℕ, List, [], length, get_or, take, refl, sym, ◌∙◌, ap, Bool, true, false, cond, cond_both, Option, Some, None, IfSome, filter, same_text, filter_map, last_or, cons_option, lookup, option_map, option_and_then, Item, Master, Product, LogEntry, is_master, AreMastersOf, Message, message_in, entry_at, Placed, passes, put_in, ordered, Ascends, product_under, product_of, place_of, no_entry, arith, nat_tests, option_map_or}
 use Rattle.mv_repository.proofs.OrderLemmas.{still-stand, passes_behind, ordered-ascends, ordered-stand, last-all}
 use Rattle.mv_repository.proofs.TableLemmas.{longer, newest, newest-stands, at-newest, filter-ascends, filter-more, filter-none, filter-stand, found-more}
 
@@ -36,6 +36,10 @@ last-put_in x None [] e a = refl
 last-put_in x (Some y) [] e a = sym (ap (λ b. cond b (Some y) (Some x)) e)
 last-put_in x last (y ∷ ys) e a =
     cond_both (passes x y) (x ∷ y ∷ ys) (y ∷ put_in x ys) (λ l. last_or last l ≡ later x (last_or (Some y) ys)) (λ h. sym (passed-last x y ys h a)) (λ h. last-put_in x (Some y) ys h a.1)
+
+-- the last that passes a test, in the order of stamps
+abbrev last_in : List LogEntry → (Placed → Bool) → Option Placed
+last_in log test = last_or None (filter test (ordered log))
 
 last-none : (f : Placed → Bool) (log : List LogEntry) (entry : LogEntry) → f (newest log entry) ≡ false → last_in (longer log entry) f ≡ last_in log f
 last-none f log entry h = ap (last_or None) (filter-none f log entry h)

@@ -1,7 +1,7 @@
 -- What is kept of all packs, where the shelf of one product is written.
-use Rattle.std.proofs.Common.{rules}
 use Rattle.std.specs.Prelude.{◌≡◌, ◌∷◌, ◌||◌}
-use Rattle.mv_repository.proofs.Words.{bytes_eq, ℕ, List, refl, Bool, false, cond, same_text, pack_key, LogEntry, IsShelfOf, no_shelf, arith, nat_tests, [], HashSet, lookup, numbers_in, lists, is_in, not, option_map, ShelfTable, life_of, shelf_of, unwrap_or}
+use Rattle.mv_repository.proofs.Words.{bytes_eq, ℕ, List, refl, sym, subst, Bool, true, false, cond, same_text, LogEntry, IsShelfOf, no_shelf, arith, nat_tests, [], HashSet, lookup, map, lists, is_in, not, option_map, ShelfTable, shelf_of, unwrap_or}
+use Rattle.mv_repository.proofs.SerialLemmas.{AreSamePacks, shelf-stays}
 
 -- the product has this shelf, and each other product its own
 abbrev pub IsShelved : List (List ℕ × ShelfTable) → List (List ℕ × ShelfTable) → List ℕ → ShelfTable → Type 0
@@ -14,14 +14,21 @@ shelved-none old new gtin same empty other = grind (arith, nat_tests, same_text 
 -- a shelf that was there, or is new
 pub shelf-there : (log : List LogEntry) (gtin : List ℕ) (shelves : List (List ℕ × ShelfTable)) (room : ℕ) (shelf : ShelfTable) → shelf ≡ unwrap_or (lookup (bytes_eq gtin) shelves) (record no_shelf { room = room })
     → IsShelfOf log gtin (shelf_of gtin shelves) → IsShelfOf log gtin shelf
-shelf-there log gtin shelves room shelf e of serial = grind arith
+shelf-there log gtin shelves room shelf e of = grind arith
 
 -- where the shelf of a product follows a log, which bears on no other product, all do
 pub shelves-follow : (old new : List (List ℕ × ShelfTable)) (gtin : List ℕ) (shelf : ShelfTable) → IsShelved old new gtin shelf → (whole before : List LogEntry)
     → ((other : List ℕ) → IsShelfOf before other (shelf_of other old)) → IsShelfOf whole gtin shelf
-    → ((other serial : List ℕ) → bytes_eq gtin other ≡ false → life_of (pack_key other serial) whole ≡ life_of (pack_key other serial) before)
-    → (other : List ℕ) → IsShelfOf whole other (shelf_of other new)
-shelves-follow old new gtin shelf looks whole before shelves now away other serial = search rules
+    → ((other : List ℕ) → bytes_eq gtin other ≡ false → AreSamePacks whole before other) → (other : List ℕ) → IsShelfOf whole other (shelf_of other new)
+shelves-follow old new gtin shelf looks whole before shelves now away other = subst (IsShelfOf whole other) (sym (looks other)) (by (bytes_eq gtin other) refl)
+  where
+    by : (b : Bool) → bytes_eq gtin other ≡ b → IsShelfOf whole other (cond b shelf (shelf_of other old))
+    by true e = subst (λ (one : List ℕ). IsShelfOf whole one shelf) (same_text gtin other (sym e)) now
+    by false e = shelf-stays whole before other (shelf_of other old) (away other e) (shelves other)
+
+-- sets of numbers by batch, each as a list
+abbrev numbers_in : {S : Type 0} → List (List ℕ × HashSet ℕ S) → List (List ℕ × List ℕ)
+numbers_in sets = map (λ entry. (entry.0, entry.1.keys)) sets
 
 -- the numbers of a batch are those of its set
 numbers_found : {S : Type 0} → (batch : List ℕ) (sets : List (List ℕ × HashSet ℕ S)) → lookup (bytes_eq batch) (numbers_in sets) ≡ option_map (λ (set : HashSet ℕ S). set.keys) (lookup (bytes_eq batch) sets)

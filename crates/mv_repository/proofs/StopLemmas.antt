@@ -1,20 +1,18 @@
 -- What a recall and a withdrawal do: their effects, the tables that find the first, and the packs on which they bear.
 use Rattle.std.proofs.Common.{rules}
 use Rattle.std.specs.Prelude.{◌&&◌, ◌+◌, ◌∷◌, ◌≡◌}
-use Rattle.mv_repository.proofs.Words.{arith, nat_tests, bytes_eq, Bool, IfSome, Option, Some, [], ap, cond, false, find, get_or, length, not, sym, take, true, true≢false, ℕ, ◌∙◌, List, same_text, list_any, lookup, option_map, Item, batch_key, is_same_batch, pack_key, BatchKey, PackKey, LogEntry, Own, recalled_in, uploaded_in, effect_after, effect_of, entries_before, lasting_effect, IsShelfOf, ShelfTable, is_listed, lists, made_batch, may_stop, life_batch, option_and_then, is_master, Placed, ordered, KnownPack, is_recall_of, is_recalled_by, is_withdrawal_of, is_withdrawn_by, next_by, pack_made_by, withdrawn_in, AreFirstsOf, AreStopsOf, FirstStops, HasFirst, Stops, comes_first, first_place, first_stops, is_stop, no_entry, place_of, standing_at, stopped_product, first_upload, is_status_of, is_upload_of, life_of, statuses_of, Stop, common_steps}
+use Rattle.mv_repository.proofs.Words.{arith, nat_tests, bytes_eq, Bool, IfSome, Option, Some, [], ap, cond, false, find, get_or, length, not, sym, take, true, true≢false, ℕ, ◌∙◌, List, same_text, list_any, lookup, option_map, Item, batch_key, is_same_batch, pack_key, BatchKey, PackKey, LogEntry, Own, recalled_in, effect_after, effect_of, entries_before, lasting_effect, IsShelfOf, ShelfTable, is_listed, lists, made_batch, may_stop, option_and_then, is_master, Placed, ordered, KnownPack, is_recall_of, is_recalled_by, is_withdrawal_of, is_withdrawn_by, next_by, pack_made_by, withdrawn_in, AreFirstsOf, AreStopsOf, FirstStops, HasFirst, Stops, comes_first, first_place, first_stops, is_stop, no_entry, place_of, standing_at, stopped_product, first_upload, is_status_of, is_upload_of, life_of, statuses_of, Stop, common_steps}
 use Rattle.mv_repository.proofs.BeforeLemmas.{any-before}
-use Rattle.mv_repository.proofs.KeptLemmas.{same_batch, batch-self, text-self}
+use Rattle.mv_repository.proofs.KeptLemmas.{life_batch, same_batch, batch-self, text-self}
 use Rattle.mv_repository.proofs.OrderLemmas.{ordered-ascends, ordered-below, still-stand}
 use Rattle.mv_repository.proofs.StateLemmas.{find-stand}
-use Rattle.mv_repository.proofs.StoppedLemmas.{once-one, one-recall, one-withdrawal}
-use Rattle.mv_repository.proofs.TableLemmas.{NamesNone, at-newest, earlier, filter-none, find-more, find-none, find-some, log-split, longer, newest, newest-stands, recalls-stay, withdrawals-stay}
+use Rattle.mv_repository.proofs.StoppedLemmas.{once-all, one-recall, one-withdrawal}
+use Rattle.mv_repository.proofs.TableLemmas.{NamesNone, NoPack, at-newest, earlier, filter-none, find-more, find-none, find-some, log-split, longer, newest, newest-stands, recalls-stay, withdrawals-stay}
+use Rattle.mv_repository.proofs.SerialLemmas.{AreSamePacks, serials-at}
 use Rattle.mv_repository.proofs.UploadedLemmas.{first-effect}
 use Rattle.mv_repository.specs.declared.stops.Stop.TheVariants as stops
 
--- an item names no pack, and no master
-abbrev pub NoPack : Item → Type 0
-NoPack item = ((pack : PackKey) → NamesNone pack item) × (uploaded_in item ≡ [])
-
+-- an item is no master
 abbrev pub NoMaster : Item → Type 0
 NoMaster item = (gtin : List ℕ) → is_master gtin item ≡ false
 
@@ -36,12 +34,12 @@ lasting f log entry place first e h = grind (arith, nat_tests, any-before f (new
 
 stop-effect : (log : List LogEntry) (entry : LogEntry) (tables : Stops) (stop : Stop) (first : Bool) → AreStopsOf log tables → is_stop stop entry.item ≡ true
     → first ≡ comes_first (longer log entry) (length log) (first_place stop tables) → lasting_effect (not first) ≡ effect_of log entry
-stop-effect log entry tables (stops.Recall batch) first are e h =
+stop-effect log entry tables (stops.OfBatch batch) first are e h =
     lasting (λ placed. is_recall_of batch.now placed.entry.item) log entry (lookup (is_same_batch batch.now) tables.recalls.entries) first (are.recalls.found batch.now) h ∙ by entry.item e
   where
     by : (item : Item) → is_recall_of batch.now item ≡ true → lasting_effect (is_recalled_by batch.now (entries_before log entry)) ≡ effect_after (entries_before log entry) entry.sender item
     by item h1 = search rules
-stop-effect log entry tables (stops.Withdrawal gtin) first are e h =
+stop-effect log entry tables (stops.OfProduct gtin) first are e h =
     lasting (λ placed. is_withdrawal_of gtin.now placed.entry.item) log entry (lookup (bytes_eq gtin.now) tables.withdrawals.entries) first (are.withdrawals.found gtin.now) h ∙ by entry.item e
   where
     by : (item : Item) → is_withdrawal_of gtin.now item ≡ true → lasting_effect (is_withdrawn_by gtin.now (entries_before log entry)) ≡ effect_after (entries_before log entry) entry.sender item
@@ -67,17 +65,17 @@ module _ {K : Type 0} (same : K → K → Bool) (is_of : K → Item → Bool) (k
   -- the table has the earlier of it and the first so far
   firsts-more : (places' : List (K × ℕ)) → keys_in entry.item ≡ key ∷ [] → HasFirst same (longer log entry) (length log) key places places'
       → AreFirstsOf same is_of keys_in (longer log entry) places'
-  firsts-more places' own has = grind (arith, nat_tests, has.places, has.keys, find-none, find-some, longer, once-one, same)
+  firsts-more places' own has = grind (arith, nat_tests, has.places, has.keys, find-none, find-some, longer, once-all same (λ (one : LogEntry). keys_in one.item) log entry (key ∷ []) own, same)
 
 stop-later : (log : List LogEntry) (entry : LogEntry) (tables : Stops) (stop : Stop) → AreStopsOf log tables → is_stop stop entry.item ≡ true
     → comes_first (longer log entry) (length log) (first_place stop tables) ≡ false → first_stops (ordered (longer log entry)) ≡ first_stops (ordered log)
-stop-later log entry tables (stops.Recall batch) are own e =
+stop-later log entry tables (stops.OfBatch batch) are own e =
     let form = recall-form batch.now entry.item own in
     λ i. record {
       recall = λ b. first-later is_same_batch is_recall_of recalled_in log entry tables.recalls.entries batch.now (same_batch batch.now) (batch-self batch.now) are.recalls form.0 e b i;
       withdrawal = λ gtin. find-none (λ placed. is_withdrawal_of gtin placed.entry.item) log entry (form.1 gtin) i;
     }
-stop-later log entry tables (stops.Withdrawal gtin) are own e =
+stop-later log entry tables (stops.OfProduct gtin) are own e =
     let form = withdrawal-form gtin.now entry.item own in
     λ i. record {
       recall = λ batch. find-none (λ placed. is_recall_of batch placed.entry.item) log entry (form.1 batch) i;
@@ -168,15 +166,18 @@ module _ (whole : List LogEntry) (place : ℕ) (l : length whole ≡ place + 1) 
       ))
 
   -- it bears on no pack of another product
-  pub stop-away : (stop : Stop) → is_stop stop entry.item ≡ true → (pack : PackKey) → bytes_eq (stopped_product stop) pack.gtin ≡ false → life_of pack whole ≡ life_of pack log
-  stop-away (stops.Recall batch) own pack n =
+  life-away : (stop : Stop) → is_stop stop entry.item ≡ true → (pack : PackKey) → bytes_eq (stopped_product stop) pack.gtin ≡ false → life_of pack whole ≡ life_of pack log
+  life-away (stops.OfBatch batch) own pack n =
       let form = recall-form batch.now entry.item own in
       ap (life_of pack) (log-split whole place l)
       ∙ elsewhere log entry pack (form.2.0 pack) (form.1 pack.gtin) (any-some (life_batch (life_of pack log)) (λ number. form.0 (batch_key pack.gtin number) ∙ ap (λ t. t && bytes_eq batch.now.batch number) n))
-  stop-away (stops.Withdrawal gtin) own pack n =
+  life-away (stops.OfProduct gtin) own pack n =
       let form = withdrawal-form gtin.now entry.item own in
       ap (life_of pack) (log-split whole place l)
       ∙ elsewhere log entry pack (form.2.0 pack) (form.0 pack.gtin ∙ n) (any-some (life_batch (life_of pack log)) (λ number. form.1 (batch_key pack.gtin number)))
+
+  pub stop-away : (stop : Stop) → is_stop stop entry.item ≡ true → (gtin : List ℕ) → bytes_eq (stopped_product stop) gtin ≡ false → AreSamePacks whole log gtin
+  stop-away stop own gtin n = (λ serial. life-away stop own (pack_key gtin serial) n, serials-at whole place gtin [] l ((stop-form stop entry.item own).0.2 gtin))
 
   -- a recall bears on no pack whose track is not listed under its batch
   pub recall-away : (key : BatchKey) (shelf : ShelfTable) → is_recall_of key entry.item ≡ true → IsShelfOf log key.gtin shelf
@@ -186,7 +187,7 @@ module _ (whole : List LogEntry) (place : ℕ) (l : length whole ≡ place + 1) 
       let form = recall-form key entry.item recall in
       let pack = pack_key key.gtin serial in
       ap (life_of pack) (log-split whole place l)
-      ∙ elsewhere log entry pack (form.2.0 pack) (form.1 key.gtin) (other (life_batch (life_of pack log)) (of serial).listed (λ batch. form.0 (batch_key key.gtin batch)))
+      ∙ elsewhere log entry pack (form.2.0 pack) (form.1 key.gtin) (other (life_batch (life_of pack log)) (of.packs serial).listed (λ batch. form.0 (batch_key key.gtin batch)))
     where
       other : (o : Option (List ℕ)) → IfSome o (λ batch. is_listed shelf.listing (lookup (bytes_eq serial) shelf.slots) batch ≡ true)
           → ((batch : List ℕ) → is_recall_of (batch_key key.gtin batch) entry.item ≡ is_same_batch key (batch_key key.gtin batch))
@@ -197,5 +198,5 @@ module _ (whole : List LogEntry) (place : ℕ) (l : length whole ≡ place + 1) 
   pub stop-passes : (stop : Stop) → is_stop stop entry.item ≡ true → (shelf : ShelfTable) → IsShelfOf log (stopped_product stop) shelf
       → (serial : List ℕ) (number : ℕ) → lookup (bytes_eq serial) shelf.slots ≡ Some (Own number) → may_stop shelf.listing stop number ≡ false
       → life_of (pack_key (stopped_product stop) serial) whole ≡ life_of (pack_key (stopped_product stop) serial) log
-  stop-passes (stops.Recall batch) own shelf of serial number found none = recall-away batch.now shelf own of serial number found none
-  stop-passes (stops.Withdrawal gtin) own shelf of serial number found none = absurd (true≢false none)
+  stop-passes (stops.OfBatch batch) own shelf of serial number found none = recall-away batch.now shelf own of serial number found none
+  stop-passes (stops.OfProduct gtin) own shelf of serial number found none = absurd (true≢false none)

@@ -1,6 +1,6 @@
--- The batches that are recalled and the products that are withdrawn, after one more entry.
+-- The batches that are recalled and the products that are withdrawn, after one more entry; and what stands in a table of keys.
 use Rattle.std.specs.Prelude.{◌≡◌, ◌∷◌, ◌++◌}
-use Rattle.mv_repository.proofs.Words.{ℕ, List, [], refl, sym, ◌∙◌, ap, Bool, true, false, fold, true≢false, same_text, flat_map, lookup, keys_of, flat_map-append, fold-append, is_some-lookup, insert_entry, insert_key, keys_insert_entry, BatchKey, Recall, Withdraw, Item, Carried, LogEntry, recalled_in, is_recall_of, is_withdrawal_of, withdrawn_in, each_once, comes_first, arith, nat_tests}
+use Rattle.mv_repository.proofs.Words.{ℕ, List, [], refl, sym, ◌∙◌, ap, Bool, true, false, fold, true≢false, same_text, flat_map, lookup, keys_of, flat_map-append, fold-append, append-nil, Some, is_some-lookup, insert_entry, insert_key, keys_insert_entry, BatchKey, Recall, Withdraw, Item, Carried, LogEntry, recalled_in, is_recall_of, is_withdrawal_of, withdrawn_in, each_once, comes_first, arith, nat_tests}
 use Rattle.mv_repository.proofs.KeptLemmas.{same_batch, batch-self, text-self}
 
 module _ {K : Type 0} (same : K → K → Bool) (keys_in : LogEntry → List K) (log : List LogEntry) (entry : LogEntry) where
@@ -10,11 +10,8 @@ module _ {K : Type 0} (same : K → K → Bool) (keys_in : LogEntry → List K) 
   once-more : each_once same (flat_map keys_in (log ++ entry ∷ [])) ≡ fold (insert_key same) before (keys_in entry ++ [])
   once-more = ap (each_once same) (flat_map-append keys_in log (entry ∷ [])) ∙ fold-append (insert_key same) [] (flat_map keys_in log) (keys_in entry ++ [])
 
-  pub once-none : keys_in entry ≡ [] → each_once same (flat_map keys_in (log ++ entry ∷ [])) ≡ before
-  once-none e = once-more ∙ ap (λ (l : List K). fold (insert_key same) before (l ++ [])) e
-
-  pub once-one : (key : K) → keys_in entry ≡ key ∷ [] → each_once same (flat_map keys_in (log ++ entry ∷ [])) ≡ insert_key same before key
-  once-one key e = once-more ∙ ap (λ (l : List K). fold (insert_key same) before (l ++ [])) e
+  pub once-all : (keys : List K) → keys_in entry ≡ keys → each_once same (flat_map keys_in (log ++ entry ∷ [])) ≡ fold (insert_key same) before keys
+  once-all keys e = once-more ∙ ap (fold (insert_key same) before) (append-nil (keys_in entry) ∙ e)
 
 pub no-recall : (item : Item) → ((batch : BatchKey) → is_recall_of batch item ≡ false) → recalled_in item ≡ []
 no-recall (Carried k stamp (Recall key at)) none = absurd (true≢false (sym (batch-self key) ∙ none key))
@@ -37,7 +34,12 @@ pub key_stays : {K : Type 0} (same : K → K → Bool) (log : List LogEntry) (ne
     → comes_first log new (lookup (same key) places) ≡ false → keys_of places ≡ insert_key same (keys_of places) key
 key_stays same log new places key e = grind (arith, nat_tests, is_some-lookup (same key) places)
 
--- where it is the first, the key is there behind it
-pub key_added : {K : Type 0} (same : K → K → Bool) (places : List (K × ℕ)) (key : K) (place : ℕ)
-    → keys_of (insert_entry same places key place) ≡ insert_key same (keys_of places) key
-key_added same places key place = keys_insert_entry same places key place
+-- a key that is there stays where it is
+pub key_there : {K X : Type 0} (same : K → K → Bool) (entries : List (K × X)) (key : K) (value : X)
+    → lookup (same key) entries ≡ Some value → keys_of entries ≡ insert_key same (keys_of entries) key
+key_there same entries key value e = grind (arith, nat_tests, is_some-lookup (same key) entries)
+
+-- a key that is written is there, behind all where it was not
+pub key_added : {K X : Type 0} (same : K → K → Bool) (entries : List (K × X)) (key : K) (value : X)
+    → keys_of (insert_entry same entries key value) ≡ insert_key same (keys_of entries) key
+key_added same entries key value = keys_insert_entry same entries key value

@@ -1,9 +1,9 @@
 -- What the tables are after one more entry of the log.
 use Rattle.std.specs.Prelude.{◌≡◌, ◌+◌, ◌∷◌, ◌++◌}
-use Rattle.mv_repository.proofs.Words.{bytes_eq, ℕ, zero, suc, arith, take, List, [], length, get_or, refl, sym, ◌∙◌, ap, Bool, true, false, cond, Option, Some, None, filter, find, map, get_or_push, length-take-le, lookup, option_map, Item, is_same_batch, BatchKey, LogEntry, recalled_in, Placed, passes, put_in, ordered, Ascends, is_recall_of, is_withdrawal_of, withdrawn_in, Stops, first_stops, stops_in, place_of, no_entry, AreFirstsOf, AreStopsOf, earlier_place, AreFound, put_place, PackKey, is_upload_of, is_status_of, nat_tests}
+use Rattle.mv_repository.proofs.Words.{bytes_eq, ℕ, zero, suc, arith, take, List, [], length, get_or, refl, sym, ◌∙◌, ap, Bool, true, false, cond, Option, Some, None, filter, find, map, get_or_push, length-take-le, lookup, option_map, Item, is_same_batch, BatchKey, LogEntry, recalled_in, serials_in, uploaded_in, Placed, passes, put_in, ordered, Ascends, is_recall_of, is_withdrawal_of, withdrawn_in, Stops, first_stops, stops_in, place_of, no_entry, AreFirstsOf, AreStopsOf, earlier_place, AreFound, entry_at, PackKey, is_upload_of, is_status_of, nat_tests}
 use Rattle.mv_repository.proofs.OrderLemmas.{cond_two, StandsBeforeAll, placed_at, ordered-ascends, ordered-push, Stand, still-stand, filter-all}
 use Rattle.mv_repository.proofs.StateLemmas.{find-stand, find-stands}
-use Rattle.mv_repository.proofs.StoppedLemmas.{once-none, no-recall, no-withdrawal}
+use Rattle.mv_repository.proofs.StoppedLemmas.{once-all, no-recall, no-withdrawal}
 
 -- a part of what ascends
 pub filter-ascends : (f : Placed → Bool) (xs : List Placed) → Ascends xs → Ascends (filter f xs)
@@ -37,7 +37,12 @@ pub find-first : (f : Placed → Bool) (xs : List Placed) → find f xs ≡ firs
 find-first f [] = refl
 find-first f (x ∷ xs) = cond_two (f x) (Some x) (find f xs) (x ∷ filter f xs) (filter f xs) (λ o l. o ≡ first_in l) (λ e. refl) (λ e. find-first f xs)
 
--- places with the newest put in are those of the list with the newest put in
+-- places with the newest put in
+abbrev pub put_place : List LogEntry → ℕ → List ℕ → List ℕ
+put_place log new [] = new ∷ []
+put_place log new (first ∷ rest) = cond (passes (entry_at log new) (entry_at log first)) (new ∷ first ∷ rest) (first ∷ put_place log new rest)
+
+-- are those of the list with the newest put in
 put_place-map : (log : List LogEntry) (x : Placed) (xs : List Placed) → get_or log x.place no_entry ≡ x.entry → Stand log xs → put_place log x.place (map place_of xs) ≡ map place_of (put_in x xs)
 put_place-map log x [] e s = refl
 put_place-map log x (y ∷ ys) e s = grind (arith, nat_tests, put_place-map log x ys e s.1)
@@ -96,6 +101,10 @@ stops-found whole log tables s stops = grind (arith, nat_tests, find-stands)
 abbrev pub NamesNone : PackKey → Item → Type 0
 NamesNone pack item = (is_upload_of pack item ≡ false) × (is_status_of pack item ≡ false)
 
+-- and of none
+abbrev pub NoPack : Item → Type 0
+NoPack item = ((pack : PackKey) → NamesNone pack item) × (uploaded_in item ≡ []) × ((gtin : List ℕ) → serials_in gtin item ≡ [])
+
 -- an entry that stops nothing leaves the first stops, and the tables of them
 abbrev pub StopsNone : Item → Type 0
 StopsNone item = ((batch : BatchKey) → is_recall_of batch item ≡ false) × ((gtin : List ℕ) → is_withdrawal_of gtin item ≡ false)
@@ -113,7 +122,7 @@ found-more {K} same is_of log entry pick pick' key one names others places place
 
 pub firsts-stay : {K : Type 0} (same : K → K → Bool) (is_of : K → Item → Bool) (keys_in : Item → List K) (log : List LogEntry) (entry : LogEntry) (places : List (K × ℕ))
     → ((key : K) → is_of key entry.item ≡ false) → keys_in entry.item ≡ [] → AreFirstsOf same is_of keys_in log places → AreFirstsOf same is_of keys_in (longer log entry) places
-firsts-stay {K} same is_of keys_in log entry places none empty firsts = grind (arith, nat_tests, find-none, once-none)
+firsts-stay {K} same is_of keys_in log entry places none empty firsts = grind (arith, nat_tests, find-none, once-all same (λ (one : LogEntry). keys_in one.item) log entry [] empty)
 
 pub recalls-stay : (log : List LogEntry) (entry : LogEntry) (places : List (BatchKey × ℕ)) → ((batch : BatchKey) → is_recall_of batch entry.item ≡ false)
     → AreFirstsOf is_same_batch is_recall_of recalled_in log places → AreFirstsOf is_same_batch is_recall_of recalled_in (longer log entry) places

@@ -2,13 +2,14 @@
 use Rattle.std.proofs.Common.{rules}
 use Rattle.std.proofs.lemmas.Grind.{common_steps}
 use Rattle.std.specs.Prelude.{◌≡◌, ◌<◌, ◌≤◌, ◌∷◌}
-use Rattle.mv_repository.proofs.Words.{is_same_pack, is_master, uploaded_in, length-map, take_at, length-take-le, get_or-insert_at, take-map, drop-map, AllByRecursion, insert, ℕ, List, [], length, get_or, take, drop, refl, sym, ◌∙◌, ap, subst, true, false, cond, cond_both, Option, Some, None, IfSome, is_some, true≢false, fold, map, filter, option_map, option_map_or, unwrap_or, PackKey, BatchKey, Status, Item, Carried, LogEntry, PartySet, Block, batch_key, Effect, BatchStanding, Placed, passes, stands_before, ordered, Ascends, KnownPack, change_effect, is_active, is_done, batch_standing, known_pack, entries_before, effect_after, effect_of, IsCovered, AreBlocks, standing_in, effect_from, message_in, effect_on, next_by, next_place, FirstStops, Stops, first_stops, stops_in, entry_at, place_of, no_entry, standing_at, AreStopsOf, Kept, is_upload_of, is_status_of, first_upload, statuses_of, pack_grown, life_of, start_of, track_of, IsKept, put_place, places_before, IsTrack, arith, nat_tests}
+use Rattle.mv_repository.proofs.Words.{is_same_pack, is_master, uploaded_in, length-map, take_at, length-take-le, get_or-insert_at, take-map, drop-map, AllByRecursion, insert, ℕ, List, [], length, get_or, take, drop, refl, sym, ◌∙◌, ap, subst, true, false, cond, cond_both, Option, Some, None, IfSome, is_some, true≢false, fold, map, filter, option_map, option_map_or, unwrap_or, PackKey, BatchKey, Status, Item, Carried, LogEntry, PartySet, Block, batch_key, Effect, BatchStanding, Placed, passes, stands_before, ordered, Ascends, KnownPack, change_effect, is_active, is_done, batch_standing, known_pack, entries_before, effect_after, effect_of, IsCovered, AreBlocks, standing_in, effect_from, message_in, effect_on, next_by, next_place, FirstStops, Stops, first_stops, stops_in, entry_at, place_of, no_entry, standing_at, AreStopsOf, Kept, is_upload_of, is_status_of, first_upload, statuses_of, pack_grown, life_of, start_of, track_of, IsKept, IsTrack, arith, nat_tests}
 use Rattle.mv_repository.specs.declared.effect.Effect.TheVariants as effects
 use Rattle.mv_repository.proofs.OrderLemmas.{ordered-ascends, ordered-below, ordered-stand, Stand, still-stand}
 use Rattle.mv_repository.proofs.StateLemmas.{entry-stands, map-stands, find-stand}
 use Rattle.mv_repository.proofs.BeforeLemmas.{stays_before, counted, counted-before, find-below, known-before, standing-before}
 use Rattle.mv_repository.proofs.KeptLemmas.{same_pack}
-use Rattle.mv_repository.proofs.TableLemmas.{longer, newest, newest-stands, filter-ascends, filter-stand, filter-some, find-none, stops-found, stops-stay, StopsNone}
+use Rattle.mv_repository.proofs.TableLemmas.{longer, newest, newest-stands, filter-ascends, filter-stand, filter-some, find-none, stops-found, stops-stay, StopsNone, put_place}
+use Rattle.mv_repository.proofs.PlaceLemmas.{IsCutFor, place_cut, places_before}
 use Rattle.mv_repository.proofs.NextLemmas.{grown-by}
 
 -- by entries that stand in the log
@@ -235,8 +236,7 @@ module _ (log : List LogEntry) (entry : LogEntry) (tables : Stops) (pack : PackK
     -- what was found for it, and what was done behind it
     pub record IsPut (whole : List LogEntry) (place : ℕ) : Type 0 where
       pub within : at ≤ length old.statuses
-      pub put : insert old.statuses at place ≡ put_place whole place old.statuses
-      pub before : take at old.statuses ≡ places_before whole place old.statuses
+      pub cut : IsCutFor whole place old.statuses at
       pub birth : now.birth ≡ old.birth
       pub statuses : now.statuses ≡ insert old.statuses at place
       pub worked : IsTrack whole (stops_in whole tables) pack.gtin now
@@ -249,6 +249,7 @@ module _ (log : List LogEntry) (entry : LogEntry) (tables : Stops) (pack : PackK
     module _ (stops : AreStopsOf log tables) (own : is_status_of pack entry.item ≡ true) (kept : IsKept (life_of pack log) old) where
       put_newest : IsPut (longer log entry) (length log) → Done (longer log entry) (length log)
       put_newest p =
+          let parts = place_cut (longer log entry) (length log) old.statuses at p.within p.cut in
           let front : take at now.statuses ≡ take at old.statuses = ap (take at) p.statuses ∙ take_at (take at old.statuses) (length log ∷ drop at old.statuses) at (length-take-le at old.statuses p.within) in
           let there : get_or now.statuses at 0 ≡ length log = ap (λ (l : List ℕ). get_or l at 0) p.statuses ∙ get_or-insert_at old.statuses at (length log) 0 p.within in
           grind (arith, nat_tests, status-effect, track-status)

@@ -1,11 +1,12 @@
 -- An upload in what is kept of one pack.
 use Rattle.std.proofs.lemmas.Grind.{common_steps}
-use Rattle.std.specs.Prelude.{◌≡◌, ◌+◌, ◌<◌, ◌&&◌, ◌||◌}
-use Rattle.mv_repository.proofs.Words.{is_master, bytes_eq, ℕ, List, [], length, get_or, take, refl, sym, ◌∙◌, ap, subst, arith, Bool, true, false, cond, or-false, map, list_any_more, same_text, Item, pack_key, PackKey, LogEntry, ordered, kept_in, IsUploadOf, list_any, IsPackOf, IsShelfOf, ShelfTable, is_listed, life_batch, made_batch, batch_at, comes_first, option_and_then, option_map, IfSome, Some, Option, Placed, first_upload, lookup, Stops, first_stops, stops_in, place_of, no_entry, AreStopsOf, earlier_place, Kept, Life, is_upload_of, is_status_of, statuses_of, life_of, track_of, IsKept, IsTrack, nat_tests, or-true}
-use Rattle.mv_repository.proofs.KeptLemmas.{text-self}
+use Rattle.std.specs.Prelude.{◌≡◌, ◌+◌, ◌<◌, ◌∷◌, ◌&&◌, ◌||◌}
+use Rattle.mv_repository.proofs.Words.{is_master, insert_key, keys_of, bytes_eq, ℕ, List, [], length, get_or, take, refl, sym, ◌∙◌, ap, subst, arith, Bool, true, false, cond, or-false, map, list_any_more, same_text, Item, pack_key, PackKey, LogEntry, ordered, kept_in, IsUploadOf, list_any, IsPackOf, IsShelfOf, ShelfTable, is_listed, made_batch, batch_at, comes_first, option_and_then, option_map, IfSome, Some, Option, Placed, first_upload, lookup, Stops, first_stops, stops_in, place_of, no_entry, AreStopsOf, earlier_place, Kept, Life, is_upload_of, is_status_of, statuses_of, life_of, track_of, IsKept, IsTrack, nat_tests, or-true}
+use Rattle.mv_repository.proofs.KeptLemmas.{life_batch, text-self}
 use Rattle.mv_repository.proofs.OrderLemmas.{ordered-stand, still-stand}
 use Rattle.mv_repository.proofs.StateLemmas.{find-stand}
 use Rattle.mv_repository.proofs.TableLemmas.{earlier, longer, newest, newest-stands, find-more, find-none, find-some, filter-none, stops-stay, StopsNone, log-split, first-same}
+use Rattle.mv_repository.proofs.SerialLemmas.{serials-at, status-serials}
 use Rattle.mv_repository.proofs.TrackLemmas.{status-form, track-worked, track-is}
 
 -- a serial number is among these
@@ -142,7 +143,7 @@ module _ (log : List LogEntry) (entry : LogEntry) (tables : Stops) (gtin : List 
       upload-adds all at new serial = subst (λ (w : List LogEntry). Adds w place all at new serial) (sym e) (subst (λ (m : ℕ). Adds (longer log entry) m all at new serial) (sym n) (adds_newest all at new serial))
 
       -- once all have it, each pack is as the longer log means it
-      pub upload-all : ArePacksOf whole log serials gtin old → IsShelfOf whole gtin old
+      pub upload-all : ArePacksOf whole log serials gtin old → (serial : List ℕ) → IsPackOf (life_of (pack_key gtin serial) whole) old serial
       upload-all are serial = subst (λ (l : Life). IsPackOf l old serial) (by (has serials serial) refl) (are serial)
         where
           by : (b : Bool) → has serials serial ≡ b → life_of (pack_key gtin serial) (cond b whole log) ≡ life_of (pack_key gtin serial) whole
@@ -165,21 +166,25 @@ module _ (whole : List LogEntry) (place : ℕ) (pack : PackKey) (l : length whol
   pub batch-noted : option_and_then (batch_at whole) (track_of pack before).birth ≡ life_batch (life_of pack whole)
   batch-noted = grind (arith, nat_tests, first-stays, batch-there whole (first_upload pack (ordered whole)) (find-stand (λ placed. is_upload_of pack placed.entry.item) whole (ordered whole) (ordered-stand whole)))
 
-  pub status-others : (old new : ShelfTable) → IsShelfOf before pack.gtin old → IsPackOf (life_of pack whole) new pack.serial
+  pub status-others : (old new : ShelfTable) → IsShelfOf before pack.gtin old → keys_of new.slots ≡ insert_key bytes_eq (keys_of old.slots) pack.serial → IsPackOf (life_of pack whole) new pack.serial
       → ((other : List ℕ) → bytes_eq pack.serial other ≡ false → kept_in new other ≡ kept_in old other)
       → ((other batch : List ℕ) → bytes_eq pack.serial other ≡ false → is_listed old.listing (lookup (bytes_eq other) old.slots) batch ≡ true → is_listed new.listing (lookup (bytes_eq other) new.slots) batch ≡ true)
       → IsShelfOf whole pack.gtin new
-  status-others old new are now others listed serial = by (bytes_eq pack.serial serial) refl
+  status-others old new are keys now others listed = record {
+    packs = λ serial. by serial (bytes_eq pack.serial serial) refl;
+    serials = keys ∙ ap (λ (serials : List (List ℕ)). insert_key bytes_eq serials pack.serial) are.serials
+        ∙ sym (serials-at whole place pack.gtin (pack.serial ∷ []) l (status-serials pack.gtin pack (get_or whole place no_entry).item own ∙ ap (λ b. cond b (pack.serial ∷ []) []) (text-self pack.gtin)));
+  }
     where
-      by : (b : Bool) → bytes_eq pack.serial serial ≡ b → IsPackOf (life_of (pack_key pack.gtin serial) whole) new serial
-      by true e = subst (λ (s : List ℕ). IsPackOf (life_of (pack_key pack.gtin s) whole) new s) (same_text pack.serial serial (sym e)) now
-      by false e =
+      by : (serial : List ℕ) (b : Bool) → bytes_eq pack.serial serial ≡ b → IsPackOf (life_of (pack_key pack.gtin serial) whole) new serial
+      by serial true e = subst (λ (s : List ℕ). IsPackOf (life_of (pack_key pack.gtin s) whole) new s) (same_text pack.serial serial (sym e)) now
+      by serial false e =
           let form = status-form pack (get_or whole place no_entry).item own in
           let only = form.0 (pack_key pack.gtin serial) in
           subst (λ (l : Life). IsPackOf l new serial)
           (sym (untouched before (get_or whole place no_entry) (pack_key pack.gtin serial) only.0 (only.1 ∙ (λ i. text-self pack.gtin i && e i)) form.1)
           ∙ ap (life_of (pack_key pack.gtin serial)) (sym (log-split whole place l)))
           (record {
-            kept = subst (IsKept (life_of (pack_key pack.gtin serial) before)) (sym (others serial e)) (are serial).kept;
-            listed = if-some _ (are serial).listed (λ batch. listed serial batch e);
+            kept = subst (IsKept (life_of (pack_key pack.gtin serial) before)) (sym (others serial e)) (are.packs serial).kept;
+            listed = if-some _ (are.packs serial).listed (λ batch. listed serial batch e);
           })

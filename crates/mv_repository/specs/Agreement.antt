@@ -19,9 +19,9 @@ abbrev pub sent_in : ℕ → Item → Option Sent
 sent_in sender (Carried k stamp message) = Some (record { sender = sender; stamp = stamp; message = message })
 sent_in sender (Receipt k reach query) = None
 
--- the messages that these entries carry, in the same order
-abbrev pub sent_by : List Placed → List Sent
-sent_by entries = filter_map (λ placed. sent_in placed.entry.sender placed.entry.item) entries
+-- an entry as it was sent
+abbrev pub sent_of : Placed → Option Sent
+sent_of placed = sent_in placed.entry.sender placed.entry.item
 
 -- a message bears on a pack whose batch has this number: it is an upload that names the pack, a status of the pack, a
 -- recall of its batch or a withdrawal of its product
@@ -38,7 +38,7 @@ batch_in pack log = option_map (λ held. held.batch) (pack_state pack log)
 
 -- what a log has about a pack, in the order of stamps: of the messages that it carries, those that bear on the pack
 abbrev pub about : PackKey → List LogEntry → List Sent
-about pack log = filter (λ sent. bears_on pack (batch_in pack log) sent.message) (sent_by (ordered log))
+about pack log = filter (λ sent. bears_on pack (batch_in pack log) sent.message) (filter_map sent_of (ordered log))
 
 -- a pack whose change names no place in a log: the place is put as 0
 abbrev pub unplaced : KnownPack → KnownPack
@@ -83,10 +83,6 @@ history_of pack log = record {
   recall = option_and_then (λ number. (first_stops (ordered log)).recall (batch_key pack.gtin number)) (batch_in pack log);
   withdrawal = (first_stops (ordered log)).withdrawal pack.gtin;
 }
-
--- an entry as it was sent
-abbrev pub sent_of : Placed → Option Sent
-sent_of placed = sent_in placed.entry.sender placed.entry.item
 
 -- a status as it was sent, and what stands before it: the upload, and the recall and the withdrawal
 pub record SentStatus : Type 0 where

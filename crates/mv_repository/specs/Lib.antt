@@ -1,16 +1,11 @@
 pub mod Words
-pub mod Log
 pub mod Order
 pub mod Pack
-pub mod Effect
 pub mod Verdict
-pub mod Counts
 pub mod Repository
 pub mod Stops
-pub mod State
 pub mod Track
 pub mod Shelf
-pub mod Inquiries
 pub mod Tables
 pub mod Agreement
 pub mod Clauses

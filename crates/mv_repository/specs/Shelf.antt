@@ -1,12 +1,9 @@
 -- What is kept of each pack of a product: a pack that has no status has a slot alone, and each other a track.
 use Rattle.std.specs.Prelude.{◌≡◌, ◌<◌, ◌==◌, ◌||◌}
-use Rattle.mv_repository.specs.Words.{ℕ, List, [], length, get_or, Bool, true, false, Option, Some, None, IfSome, bytes_eq, lookup, option_and_then, option_map_or, map, filter, is_some, not, HashSet, Counted, Active, Slot, Made, Own, list_any, Upload, Item, Carried, LogEntry, pack_key, unwrap_or, Stop, Withdrawal}
-use Rattle.mv_repository.specs.declared.shelf.Counted.TheVariants.{Held}
-use Rattle.mv_repository.specs.declared.stops.Stop.TheVariants.{Recall}
-use Rattle.mv_repository.specs.Order.{Placed}
-use Rattle.mv_repository.specs.State.{made_batch}
+use Rattle.mv_repository.specs.Words.{ℕ, List, [], length, get_or, Bool, true, false, Option, Some, None, IfSome, bytes_eq, keys_of, lookup, option_and_then, option_map_or, filter, is_some, not, HashSet, Counted, Active, Every, Slot, Made, Own, list_any, Upload, Item, Carried, LogEntry, pack_key, unwrap_or, Stop, OfBatch, OfProduct}
+use Rattle.mv_repository.specs.Track.{made_batch, Kept, Life, life_of, IsKept, IsTrack}
 use Rattle.mv_repository.specs.Stops.{FirstStops}
-use Rattle.mv_repository.specs.Track.{Kept, Life, life_of, IsKept, IsTrack, is_active_kept}
+use Rattle.mv_repository.specs.Repository.{serials_of}
 
 -- nothing is kept
 abbrev pub nothing_kept : Kept
@@ -23,10 +20,6 @@ pub record IsShelf (slots : List (List ℕ × Slot)) (tracks : List Kept) : Type
   pub within : (serial : List ℕ) (number : ℕ) → lookup (bytes_eq serial) slots ≡ Some (Own number) → number < length tracks
   pub apart : (serial other : List ℕ) (number : ℕ) → lookup (bytes_eq serial) slots ≡ Some (Own number)
       → lookup (bytes_eq other) slots ≡ Some (Own number) → bytes_eq serial other ≡ true
-
--- sets of numbers by batch, each as a list
-abbrev pub numbers_in : {S : Type 0} → List (List ℕ × HashSet ℕ S) → List (List ℕ × List ℕ)
-numbers_in sets = map (λ entry. (entry.0, entry.1.keys)) sets
 
 -- the numbers of tracks by batch; where memory was refused for one, they are not all
 pub record ListingTable : Type 0 where
@@ -63,8 +56,8 @@ lists listing batch number = not listing.is_whole || option_map_or (λ numbers. 
 
 -- a stop may bear on the pack of a track
 abbrev pub may_stop : ListingTable → Stop → ℕ → Bool
-may_stop listing (Recall batch) number = lists listing batch.now.batch number
-may_stop listing (Withdrawal gtin) number = true
+may_stop listing (OfBatch batch) number = lists listing batch.now.batch number
+may_stop listing (OfProduct gtin) number = true
 
 -- a pack's track may be of a batch, where it has one
 abbrev pub is_listed : ListingTable → Option Slot → List ℕ → Bool
@@ -75,18 +68,15 @@ is_listed listing _ batch = true
 abbrev pub is_listed_in : ShelfTable → List ℕ → List ℕ → Bool
 is_listed_in shelf serial batch = is_listed shelf.listing (lookup (bytes_eq serial) shelf.slots) batch
 
--- the batch of the upload that made a pack
-abbrev pub life_batch : Life → Option (List ℕ)
-life_batch life = option_and_then (λ (placed : Placed). made_batch placed.entry.item) life.birth
-
--- a pack is kept on a shelf as a log means it, and its track is listed under its batch
+-- a pack is kept on a shelf as a log means it, and its track is listed under its batch, which is that of the upload that made it
 pub record IsPackOf (life : Life) (shelf : ShelfTable) (serial : List ℕ) : Type 0 where
   pub kept : IsKept life (kept_in shelf serial)
-  pub listed : IfSome (life_batch life) (λ batch. is_listed_in shelf serial batch ≡ true)
+  pub listed : IfSome (option_and_then (λ birth. made_batch birth.entry.item) life.birth) (λ batch. is_listed_in shelf serial batch ≡ true)
 
--- a shelf is that of a product by a log
-abbrev pub IsShelfOf : List LogEntry → List ℕ → ShelfTable → Type 0
-IsShelfOf log gtin shelf = (serial : List ℕ) → IsPackOf (life_of (pack_key gtin serial) log) shelf serial
+-- a shelf is that of a product by a log: it keeps each pack, and has a slot for each serial number that the log names, in their order
+pub record IsShelfOf (log : List LogEntry) (gtin : List ℕ) (shelf : ShelfTable) : Type 0 where
+  pub packs : (serial : List ℕ) → IsPackOf (life_of (pack_key gtin serial) log) shelf serial
+  pub serials : keys_of shelf.slots ≡ serials_of log gtin
 
 -- a shelf with no pack
 abbrev pub no_shelf : ShelfTable
@@ -107,10 +97,10 @@ abbrev pub IsRefreshed : List LogEntry → FirstStops → List ℕ → Bool → 
 IsRefreshed log stops gtin true old new = IsAgain log stops gtin old.birth old new
 IsRefreshed log stops gtin false old new = new ≡ old
 
--- a pack that is kept so is counted
+-- a pack that is kept so is counted: every one that is held, or of these each that is active, which stands by its upload
 abbrev pub is_counted : Counted → Kept → Bool
-is_counted Held kept = is_some kept.birth
-is_counted Active kept = is_active_kept kept
+is_counted Every kept = is_some kept.birth
+is_counted Active kept = option_map_or (λ birth. birth == kept.by) kept.birth false
 
 -- the slots of the packs on a shelf that are counted
 abbrev pub slots_counted : Counted → ShelfTable → List (List ℕ × Slot)

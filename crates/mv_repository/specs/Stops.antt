@@ -1,20 +1,15 @@
 -- What stops a batch for ever: its first recall, and the first withdrawal of its product, by the order of stamps; and which
 -- batches a log recalls, and which products it withdraws.
 use Rattle.std.specs.Prelude.{◌≡◌, ◌∷◌, if◌then◌else◌}
-use Rattle.mv_repository.specs.Words.{ℕ, List, [], find, fold, get_or, Bool, true, false, Option, Some, None, bytes_eq, flat_map, lookup, keys_of, option_map, option_map_or, insert_key, BatchKey, Withdraw, Item, Receipt, Carried, Message, LogEntry, BatchStanding, Stop, Stops, Withdrawal, is_same_batch}
-use Rattle.mv_repository.specs.declared.stops.Stop.TheVariants.{Recall}
+use Rattle.mv_repository.specs.Words.{ℕ, List, [], find, get_or, Bool, true, false, Option, Some, None, bytes_eq, flat_map, lookup, keys_of, option_map, option_map_or, insert_key, BatchKey, Withdraw, Item, Receipt, Carried, Message, LogEntry, BatchStanding, Stop, Stops, OfBatch, OfProduct, is_same_batch}
 use Rattle.mv_repository.specs.Order.{Placed, passes, stands_before, ordered}
 use Rattle.mv_repository.specs.Pack.{is_recall_of, is_withdrawal_of}
-use Rattle.mv_repository.specs.Counts.{recalled_in}
+use Rattle.mv_repository.specs.Repository.{each_once, recalled_in}
 
 -- the products that an item withdraws
 abbrev pub withdrawn_in : Item → List (List ℕ)
 withdrawn_in (Carried k stamp (Withdraw gtin at)) = gtin ∷ []
 withdrawn_in _ = []
-
--- each of these keys once, as the first of those that are the same
-abbrev pub each_once : {K : Type 0} → (K → K → Bool) → List K → List K
-each_once same keys = fold (insert_key same) [] keys
 
 -- the batches that a log recalls
 abbrev pub recalled_batches : List LogEntry → List BatchKey
@@ -44,10 +39,6 @@ entry_of placed = placed.entry
 abbrev pub message_in : Item → Option Message
 message_in (Carried k stamp message) = Some message
 message_in _ = None
-
--- the same by the place of an entry in a log
-abbrev pub message_at : List LogEntry → ℕ → Option Message
-message_at log place = message_in (entry_at log place).entry.item
 
 -- the first recall of each batch, and the first withdrawal of each product
 pub record FirstStops : Type 0 where
@@ -80,18 +71,18 @@ stops_in log tables = record {
 
 -- an item stops packs so
 abbrev pub is_stop : Stop → Item → Bool
-is_stop (Recall batch) item = is_recall_of batch.now item
-is_stop (Withdrawal gtin) item = is_withdrawal_of gtin.now item
+is_stop (OfBatch batch) item = is_recall_of batch.now item
+is_stop (OfProduct gtin) item = is_withdrawal_of gtin.now item
 
 -- the product of the packs that are stopped so
 abbrev pub stopped_product : Stop → List ℕ
-stopped_product (Recall batch) = batch.now.gtin
-stopped_product (Withdrawal gtin) = gtin.now
+stopped_product (OfBatch batch) = batch.now.gtin
+stopped_product (OfProduct gtin) = gtin.now
 
 -- the place of the first that stops so, by the tables
 abbrev pub first_place : Stop → Stops → Option ℕ
-first_place (Recall batch) tables = lookup (is_same_batch batch.now) tables.recalls.entries
-first_place (Withdrawal gtin) tables = lookup (bytes_eq gtin.now) tables.withdrawals.entries
+first_place (OfBatch batch) tables = lookup (is_same_batch batch.now) tables.recalls.entries
+first_place (OfProduct gtin) tables = lookup (bytes_eq gtin.now) tables.withdrawals.entries
 
 -- a table of keys has the place of what is picked of each kind
 abbrev pub AreFound : {K : Type 0} → (K → K → Bool) → (K → Item → Bool) → ((Placed → Bool) → Option Placed) → List (K × ℕ) → Type 0

@@ -1,24 +1,23 @@
--- The tables that a repository keeps of its log.
-use Rattle.std.specs.Prelude.{◌≡◌}
-use Rattle.mv_repository.specs.Words.{ℕ, List, length, Bool, false, filter, Option, None, bytes_eq, last_or, Master, Item, Carried, LogEntry}
+-- What a repository keeps beside its log: the tables of its products and packs, and what it knows of its own queries.
+use Rattle.std.specs.Prelude.{◌≡◌, ◌<◌, ◌&&◌, ◌||◌, ◌==◌, if◌then◌else◌, unwrap_or}
+use Rattle.mv_repository.specs.Words.{ℕ, Bool, false, nat_eq, length, filter, last_or, bytes_eq, List, Option, Some, None, list_any, option_or, lookup, map_spare, set_spare, Master, Answer, Item, Receipt, Carried, LogEntry}
+use Rattle.mv_repository.specs.declared.inquiries.Inquiries.{Inquiries}
+use Rattle.mv_repository.specs.declared.inquiries.Inquiry.{Inquiry}
 use Rattle.mv_repository.specs.declared.tables.Tables.{Tables}
-use Rattle.mv_repository.specs.Counts.{uploaded_packs}
-use Rattle.mv_repository.specs.Order.{Placed, ordered}
+use Rattle.mv_repository.specs.Order.{ordered}
+use Rattle.mv_repository.specs.Repository.{uploaded_packs}
 use Rattle.mv_repository.specs.Shelf.{IsShelfOf, shelf_of}
 use Rattle.mv_repository.specs.Stops.{AreFound, AreStopsOf}
+use Rattle.mv_repository.specs.Verdict.{asked_parties, has_answered, has_finding, found_active, found_explained}
 
 -- an item is a master of a code
 abbrev pub is_master : List ℕ → Item → Bool
 is_master gtin (Carried k stamp (Master named product)) = bytes_eq named gtin
 is_master gtin _ = false
 
--- the last that passes a test, of the entries of a log in the order of stamps
-abbrev pub last_in : List LogEntry → (Placed → Bool) → Option Placed
-last_in log test = last_or None (filter test (ordered log))
-
 -- the table has, for each code, the place of its last master by stamp order, and nothing where there is none
 abbrev pub AreMastersOf : List LogEntry → List (List ℕ × ℕ) → Type 0
-AreMastersOf log masters = AreFound bytes_eq is_master (last_in log) masters
+AreMastersOf log masters = AreFound bytes_eq is_master (λ test. last_or None (filter test (ordered log))) masters
 
 -- the tables are those of a log, and its uploads name so many packs, each as often as it is named
 pub record AreTablesOf (log : List LogEntry) (tables : Tables) : Type 0 where
@@ -26,3 +25,41 @@ pub record AreTablesOf (log : List LogEntry) (tables : Tables) : Type 0 where
   pub stops : AreStopsOf log tables.stops
   pub shelves : (gtin : List ℕ) → IsShelfOf log gtin (shelf_of gtin tables.shelves.entries)
   pub named : tables.named ≡ length (uploaded_packs log)
+
+-- the query of the party that an item from a sender tells of: it is the receipt of one, or an answer to one
+abbrev pub query_of : ℕ → ℕ → Item → Option ℕ
+query_of party sender (Receipt k reach query) = if query && (sender == party) then Some k else None
+query_of party sender (Carried k stamp (Answer asker q key found)) = if asker == party then Some q else None
+query_of party sender _ = None
+
+-- nothing is known of a query
+abbrev pub no_inquiry : Inquiry
+no_inquiry = record { asked = None; active = false; explained = false }
+
+-- it is kept that a party has answered a query
+abbrev pub has_reply : Inquiries → ℕ → ℕ → Bool
+has_reply known q other = list_any (λ reply. (q == reply.0) && (other == reply.1)) known.replies.keys
+
+-- a query once an item tells of it: the first receipt names the parties that were asked, and each answer what it found
+abbrev pub inquiry_after : Item → Inquiry → Inquiry
+inquiry_after (Receipt k reach query) inquiry = record inquiry { asked = option_or inquiry.asked (Some reach) }
+inquiry_after (Carried k stamp (Answer asker q key found)) inquiry =
+    record inquiry { active = inquiry.active || found_active found; explained = inquiry.explained || found_explained found }
+inquiry_after _ inquiry = inquiry
+
+-- there is room for one more query, and for one more answer
+abbrev pub HasRoom : Inquiries → Type 0
+HasRoom known = (0 < map_spare known.inquiries) × (0 < set_spare known.replies)
+
+-- what a log says of a party's query
+abbrev pub inquiry_of : ℕ → List LogEntry → ℕ → Inquiry
+inquiry_of party log q = record {
+  asked = asked_parties party log q;
+  active = has_finding found_active party log q;
+  explained = has_finding found_explained party log q;
+}
+
+-- what is kept is what a log says of a party's queries, for each query and each other party; of a query that is not kept it says nothing
+pub record IsInquiriesOf (party : ℕ) (log : List LogEntry) (known : Inquiries) : Type 0 where
+  pub inquiries : (q : ℕ) → unwrap_or (lookup (nat_eq q) known.inquiries.entries) no_inquiry ≡ inquiry_of party log q
+  pub replies : (q other : ℕ) → has_reply known q other ≡ has_answered party log q other

@@ -1,13 +1,109 @@
 -- What is kept of one pack: its first upload, its statuses in the order of stamps, the entry by which the pack stands behind
--- them, and what many of them do that stand one behind the other.
-use Rattle.std.specs.Prelude.{◌≡◌, ◌≤◌, ◌+◌, ◌%◌, ◌∷◌, ◌++◌, ◌==◌, if◌then◌else◌}
-use Rattle.mv_repository.specs.Words.{⊤, ℕ, List, [], length, take, drop, true, AllByRecursion, PARTIES_LIMIT, PartySet, map, fold, filter, find, not, Bool, false, Option, Some, None, option_map, option_map_or, PackKey, BatchKey, Upload, Status, Item, Carried, LogEntry, BatchStanding, unwrap_or, Block, is_same_pack, batch_key}
+-- them, and what many of them do that stand one behind the other. A pack stands by the upload that made it, or by the status
+-- that changed it last: the place of that entry is the whole state of a pack whose upload is known.
+use Rattle.std.specs.Prelude.{if◌then◌else◌, ◌≡◌, ◌≤◌, ◌+◌, ◌%◌, ◌∷◌, ◌++◌}
+use Rattle.mv_repository.specs.Words.{ℕ, List, [], take, Option, Some, None, option_and_then, option_map, option_map_or, BatchKey, Standing, Message, Upload, Status, Item, Carried, LogEntry, Effect, BatchStanding, unwrap_or, Held, batch_key, ⊤, length, drop, true, AllByRecursion, PARTIES_LIMIT, PartySet, map, fold, filter, find, Bool, false, PackKey, Block, is_same_pack}
+use Rattle.mv_message.specs.declared.standing.Standing.TheVariants as standings
+use Rattle.mv_repository.specs.declared.effect.Effect.TheVariants as effects
+use Rattle.mv_repository.specs.declared.state.Basis.{Basis}
+use Rattle.mv_repository.specs.Order.{Placed, stands_before, ordered}
+use Rattle.mv_repository.specs.Pack.{effect_of, KnownPack, KnownChange, new_pack, is_active, is_done, change_effect, held_of, has_pack, pack_after_status}
+use Rattle.mv_repository.specs.Stops.{FirstStops, standing_at, entry_at, message_in, stops_in, place_of, first_stops}
 use Rattle.mv_link.specs.PartySets.{has_party}
 use Rattle.mv_repository.specs.declared.blocks.Cut.{Cut}
-use Rattle.mv_repository.specs.Order.{Placed, passes, stands_before, ordered}
-use Rattle.mv_repository.specs.Pack.{KnownPack, has_pack, is_active, pack_after_status}
-use Rattle.mv_repository.specs.State.{next_by, next_place, pack_made_by, standing_in}
-use Rattle.mv_repository.specs.Stops.{FirstStops, entry_at, place_of, first_stops, standing_at}
+
+-- the pack that an upload makes; none where a message is no upload
+abbrev pub pack_of : Message → Option KnownPack
+pack_of (Upload gtin batch expiry national serials) = Some (new_pack batch expiry national)
+pack_of _ = None
+
+abbrev pub pack_made_by : Item → Option KnownPack
+pack_made_by item = option_and_then pack_of (message_in item)
+
+-- the batch of the packs that an item uploads, and that the entry at a place of a log does
+abbrev pub made_batch : Item → Option (List ℕ)
+made_batch item = option_map (λ (made : KnownPack). made.batch) (pack_made_by item)
+
+abbrev pub batch_at : List LogEntry → ℕ → Option (List ℕ)
+batch_at log place = made_batch (entry_at log place).entry.item
+
+-- how a pack stands that stands by an item: as a status asked, else active
+abbrev pub standing_of : Option Message → Standing
+standing_of (Some (Status key to user at)) = to
+standing_of _ = standings.Active
+
+abbrev pub standing_in : Item → Standing
+standing_in item = standing_of (message_in item)
+
+-- what took it from active, where it stands by a status of a sender at a place of the log
+abbrev pub change_of : ℕ → ℕ → Message → Option KnownChange
+change_of place sender (Status key to user at) = Some (record { by = sender; user = user; at = at; entry = place })
+change_of place sender _ = None
+
+abbrev pub change_in : Placed → Option KnownChange
+change_in placed = option_and_then (change_of placed.place placed.entry.sender) (message_in placed.entry.item)
+
+-- the pack that an upload made, where it stands by an entry
+abbrev pub known_at : Placed → Placed → Option KnownPack
+known_at birth by =
+    option_map
+    (λ (made : KnownPack). record made { standing = standing_in by.entry.item; change = change_in by })
+    (pack_made_by birth.entry.item)
+
+-- the same by places in a log, as a repository shows it
+abbrev pub held_at : List LogEntry → ℕ → ℕ → Option Held
+held_at log birth by = option_map held_of (known_at (entry_at log birth) (entry_at log by))
+
+-- the effect of an item on a pack that is held, where it is a status of it
+abbrev pub effect_from : (BatchKey → BatchStanding) → ℕ → Option Message → List ℕ → KnownPack → Effect
+effect_from standing sender (Some (Status key to user at)) gtin held =
+    change_effect held (standing (batch_key gtin held.batch)) to sender user at
+effect_from standing sender _ gtin held = effects.Noted
+
+-- the effect of a status on a pack of a product, by its first upload and by the entry by which it stands; none stands
+-- before that upload
+abbrev pub effect_on : FirstStops → List ℕ → Option Placed → Placed → Placed → Effect
+effect_on stops gtin None by placed = effects.Unknown
+effect_on stops gtin (Some birth) by placed =
+    if stands_before birth placed
+    then option_map_or (effect_from (standing_at stops placed) placed.entry.sender (message_in placed.entry.item) gtin) (known_at birth by) effects.Unknown
+    else effects.Unknown
+
+-- what the newest entry of a log does, which stands at a place
+abbrev pub newest_effect : List LogEntry → ℕ → Effect
+newest_effect log place = effect_of (take place log) (entry_at log place).entry
+
+-- By which entry the pack stands then: a change is by the status, and a revert leaves the pack as its upload made it.
+abbrev pub next_by : FirstStops → List ℕ → Option Placed → Placed → Placed → Placed
+next_by stops gtin None by placed = by
+next_by stops gtin (Some birth) by placed =
+    if is_done (effect_on stops gtin (Some birth) by placed)
+    then (if is_active (standing_in placed.entry.item) then birth else placed)
+    else by
+
+-- the same by places in a log
+abbrev pub next_place : List LogEntry → FirstStops → List ℕ → Option ℕ → ℕ → ℕ → ℕ
+next_place log stops gtin birth by place =
+    (next_by stops gtin (option_map (entry_at log) birth) (entry_at log by) (entry_at log place)).place
+
+-- by what a pack is worked out: the first stops, the entry at a place, and by which entry the pack stands in front of its
+-- statuses, and behind one of them
+abbrev pub stops_of : Basis → FirstStops
+stops_of basis = stops_in basis.log.now basis.stops.now
+
+abbrev pub entry_in : Basis → ℕ → Placed
+entry_in basis = entry_at basis.log.now
+
+abbrev pub start_in : Basis → ℕ
+start_in basis = unwrap_or basis.birth 0
+
+-- the effect of the status at a place, where the pack stands by an entry
+abbrev pub effect_in : Basis → ℕ → ℕ → Effect
+effect_in basis by place =
+    effect_on (stops_of basis) basis.gtin.now (option_map (entry_in basis) basis.birth) (entry_in basis by) (entry_in basis place)
+
+abbrev pub next_in : Basis → ℕ → ℕ → ℕ
+next_in basis = next_place basis.log.now (stops_of basis) basis.gtin.now basis.birth
 
 -- an item is an upload that names a pack
 abbrev pub is_upload_of : PackKey → Item → Bool
@@ -45,13 +141,10 @@ pack_grown stops pack None statuses = None
 pack_grown stops pack (Some birth) statuses =
     option_map (λ held. fold (pack_step stops pack birth) held statuses) (pack_made_by birth.entry.item)
 
--- a set may have a sender: it seems to have all whose numbers differ from that of one by the greatest number of parties
-abbrev pub may_have : PartySet → ℕ → Bool
-may_have senders sender = has_party senders (sender % PARTIES_LIMIT)
-
--- an entry is no revert, or its sender is among these
+-- an entry is no revert, or its sender may be among these: a set seems to have all whose numbers differ from that of one by the
+-- greatest number of parties
 abbrev pub IsCovered : PartySet → Placed → Type 0
-IsCovered reverters placed = is_active (standing_in placed.entry.item) ≡ true → may_have reverters placed.entry.sender ≡ true
+IsCovered senders placed = is_active (standing_in placed.entry.item) ≡ true → has_party senders (placed.entry.sender % PARTIES_LIMIT) ≡ true
 
 -- What is known of a block by the statuses in it: what they leave of a pack that comes to them active, and whose reverts are
 -- among them. Of too many senders is right, of too few is not.
@@ -129,22 +222,8 @@ pub record IsKept (life : Life) (kept : Kept) : Type 0 where
   pub bare : bare kept ≡ kept_of life
   pub blocks : AreBlocks (λ placed. placed) life.next (start_of life) (start_of life) kept.blocks life.statuses
 
--- places with the newest put in
-abbrev pub put_place : List LogEntry → ℕ → List ℕ → List ℕ
-put_place log new [] = new ∷ []
-put_place log new (first ∷ rest) =
-    if passes (entry_at log new) (entry_at log first) then new ∷ first ∷ rest else first ∷ put_place log new rest
-
--- those places whose entries the newest does not pass
-abbrev pub places_before : List LogEntry → ℕ → List ℕ → List ℕ
-places_before log new places = filter (λ place. not (passes (entry_at log new) (entry_at log place))) places
-
 -- a pack is worked out, by places in a log
 pub record IsTrack (log : List LogEntry) (stops : FirstStops) (gtin : List ℕ) (kept : Kept) : Type 0 where
   pub by : kept.by ≡ fold (next_place log stops gtin kept.birth) (unwrap_or kept.birth 0) kept.statuses
   pub blocks : AreBlocks (entry_at log) (next_place log stops gtin kept.birth) (unwrap_or kept.birth 0) (unwrap_or kept.birth 0)
       kept.blocks kept.statuses
-
--- a pack is held, and active: it stands by its upload
-abbrev pub is_active_kept : Kept → Bool
-is_active_kept kept = option_map_or (λ birth. birth == kept.by) kept.birth false

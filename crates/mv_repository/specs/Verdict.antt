@@ -1,7 +1,7 @@
 -- What a query finds, and the answers that a log calls for; and whether a pack is authentic: by one repository, and by the answers of all
 -- that were asked (Delegated Regulation (EU) 2016/161, Articles 11 and 36).
 use Rattle.std.specs.Prelude.{◌==◌, ◌&&◌, ◌||◌, ◌∷◌, ◌++◌, if◌then◌else◌}
-use Rattle.mv_repository.specs.Words.{ℕ, List, [], Option, Some, None, option_to_list, option_map_or, PackKey, Message, Query, Answer, Found, Item, Carried, LogEntry, batch_key, not, Bool, true, false, length, filter, is_some, list_any, option_or, Standing, Receipt, Verdict, Authentic, NotAuthentic, Local, Joint, NotAsked, Pending, Decided}
+use Rattle.mv_repository.specs.Words.{ℕ, List, [], Option, Some, None, option_to_list, option_map_or, PackKey, Message, Query, Answer, Found, Item, Carried, LogEntry, batch_key, not, Bool, true, false, length, filter, is_some, list_any, option_or, Receipt, Verdict, Authentic, NotAuthentic, Local, Joint, NotAsked, Pending, Decided}
 use Rattle.mv_message.specs.declared.standing.Standing.TheVariants as standings
 use Rattle.mv_message.specs.declared.found.Found.TheVariants as founds
 use Rattle.mv_repository.specs.declared.verdict.Local.TheVariants.{Absent, Known}
@@ -30,11 +30,6 @@ answers_from before (entry ∷ rest) = option_to_list (answer_to before entry) +
 abbrev pub answers_of : List LogEntry → List Message
 answers_of log = answers_from [] log
 
--- a pack is to be destroyed
-abbrev pub is_for_destruction : Standing → Bool
-is_for_destruction standings.Destruction = true
-is_for_destruction _ = false
-
 -- a pack was found active
 abbrev pub found_active : Found → Bool
 found_active founds.Absent = false
@@ -43,7 +38,8 @@ found_active (founds.Present batch expiry national standing recalled withdrawn) 
 -- a pack was found recalled, withdrawn, or to be destroyed: something other than a falsification explains it
 abbrev pub found_explained : Found → Bool
 found_explained founds.Absent = false
-found_explained (founds.Present batch expiry national standing recalled withdrawn) = recalled || withdrawn || is_for_destruction standing
+found_explained (founds.Present batch expiry national standings.Destruction recalled withdrawn) = true
+found_explained (founds.Present batch expiry national standing recalled withdrawn) = recalled || withdrawn
 
 -- The verdict where a finding is active or not, and where one is explained or not: authentic where one is active; else a
 -- falsification is suspected, unless there is another reason. An active pack is authentic also where it is recalled or

@@ -15,16 +15,16 @@ pub use Rattle.mv_pack.specs.Keys.{batch_key, is_same_batch, is_same_pack, pack_
 pub use Rattle.mv_pack.specs.declared.key.BatchKey.{BatchKey}
 pub use Rattle.mv_pack.specs.declared.key.PackKey.{PackKey, PackKey as APackKey}
 pub use Rattle.mv_repository.specs.declared.blocks.Block.{Block}
-pub use Rattle.mv_repository.specs.declared.shelf.Counted.TheVariants.{Active}
+pub use Rattle.mv_repository.specs.declared.shelf.Counted.TheVariants.{Active, Every}
 pub use Rattle.mv_repository.specs.declared.shelf.Counted.{Counted}
-pub use Rattle.mv_repository.specs.declared.counts.Counts.{Counts}
+pub use Rattle.mv_repository.specs.declared.repository.Counts.{Counts}
 pub use Rattle.mv_repository.specs.declared.effect.Effect.{Effect}
 pub use Rattle.mv_repository.specs.declared.entry.LogEntry.{LogEntry, LogEntry as AnEntry}
 pub use Rattle.mv_repository.specs.declared.held.Held.{Held}
 pub use Rattle.mv_repository.specs.declared.shelf.Slot.TheVariants.{Made, Own}
 pub use Rattle.mv_repository.specs.declared.shelf.Slot.{Slot}
 pub use Rattle.mv_repository.specs.declared.stops.BatchStanding.{BatchStanding}
-pub use Rattle.mv_repository.specs.declared.stops.Stop.TheVariants.{Withdrawal}
+pub use Rattle.mv_repository.specs.declared.stops.Stop.TheVariants.{OfBatch, OfProduct}
 pub use Rattle.mv_repository.specs.declared.stops.Stop.{Stop}
 pub use Rattle.mv_repository.specs.declared.stops.Stops.{Stops}
 pub use Rattle.mv_repository.specs.declared.verdict.Joint.TheVariants.{Decided, NotAsked, Pending}
@@ -37,5 +37,5 @@ pub use Rattle.std.specs.Iterator.{YieldsFirstRef, item_count}
 pub use Rattle.std.specs.List.{AllByRecursion, Contains, IsDistinct, filter_map, flat_map, last_or, list_any}
 pub use Rattle.std.specs.Map.{keys_of, lookup}
 pub use Rattle.std.specs.Option.{option_and_then, option_copied, option_map, option_map_or, option_or, unwrap_or}
-pub use Rattle.std.specs.Prelude.{Bool, IfOk, IfSome, IsTrue, List, MatchOption, None, OnErr, OnOk, Option, Some, [], bytes_eq, codes, drop, false, filter, find, fold, get_or, insert, is_some, length, map, nat_eq, nat_lt, not, option_to_list, slice_get, take, true, ⊤, ℕ}
+pub use Rattle.std.specs.Prelude.{Bool, IfOk, IfSome, IsTrue, List, MatchOption, None, OnErr, OnOk, Option, Some, [], bytes_eq, codes, drop, false, filter, find, fold, get_or, is_some, length, map, nat_eq, nat_lt, not, option_to_list, slice_get, take, true, ⊤, ℕ}
 pub use Rattle.std.specs.Set.{distinct_count}

@@ -4,7 +4,7 @@ ghost use Rattle.std.specs.Prelude.{◌≡◌, ◌↔◌};
 ghost use Rattle.mv_repository.specs.Clauses.{IsTrue, YieldsFirstRef, as_sent, entry_at, entry_of, history_at, item_count, map, option_and_then, option_copied, option_map, sent_in, sent_status};
 
 use crate::LogEntry;
-use crate::order::is_before;
+use crate::entry::is_before;
 use mv_link::Item;
 use mv_message::laws::messages_are_equal;
 use mv_message::{Message, Party};

@@ -68,13 +68,10 @@ impl Inquiries {
             unreachable!();
         };
         inquiry.or_insert(Inquiry::new()).note(item);
-        match item {
-            Item::Receipt { .. } => (),
-            Item::Carried { .. } => {
-                let Ok(_) = self.replies.insert((query, sender)) else {
-                    unreachable!();
-                };
-            }
+        if let Item::Carried { .. } = item {
+            let Ok(_) = self.replies.insert((query, sender)) else {
+                unreachable!();
+            };
         }
     }
 

@@ -1,8 +1,8 @@
 //! A national repository: its log, and the copy that the log means.
 //!
-//! A party owns one. The contract: a repository is seen as its party and its log; whatever it answers is the meaning of
-//! that log in the order of the hub's stamps, by the definitions in `specs/`. A refused call has changed nothing. This
-//! crate knows no hub, no JSON and no thread.
+//! A party owns one. The contract: a repository is seen as its party and its log; whatever it answers is what that log
+//! means, by the definitions in `specs/`. Products, packs and verdicts go in the order of the hub's stamps, and what is
+//! listed goes in the order of arrival. A refused call has changed nothing. This crate knows no hub, no JSON and no thread.
 //!
 //! It can be used alone, with the crates that its line of crates.txt names.
 //! A caller that looks at what came from one sender, proved in the gate (`mv_rows`):
@@ -19,7 +19,6 @@
 #![tactic(auto)]
 
 mod blocks;
-mod counts;
 mod effect;
 mod entry;
 mod held;
@@ -27,10 +26,7 @@ mod history;
 mod inquiries;
 mod laws;
 mod listing;
-mod masters;
-mod order;
 mod repository;
-mod sender;
 mod shelf;
 mod state;
 mod stops;
@@ -38,15 +34,13 @@ mod tables;
 mod track;
 mod verdict;
 
-pub use counts::Counts;
 pub use effect::Effect;
-pub use entry::LogEntry;
+pub use entry::{FromSender, LogEntry};
 pub use held::{Change, Held, REVERT_SECONDS};
 pub use history::{History, Statuses};
 pub use laws::{
     about_decides, change_names_its_status, ordered_is_the_order, pack_is_of_its_own_entries,
     same_entries_agree, same_histories_agree, same_messages_agree,
 };
-pub use repository::Repository;
-pub use sender::FromSender;
+pub use repository::{Counts, Repository};
 pub use verdict::{Joint, Local, Verdict};

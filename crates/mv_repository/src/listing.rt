@@ -35,11 +35,12 @@ pub(crate) struct Listing {
 }
 
 impl Model for Listing {
-    ghost use Rattle.mv_repository.specs.Shelf.{ListingTable, numbers_in};
+    ghost use Rattle.mv_repository.specs.Shelf.{ListingTable};
+    ghost use Rattle.std.specs.Prelude.{map};
 
     ghost Value = { ListingTable };
 
-    ghost view = { λ a. record { is_whole = a.is_whole; numbers = numbers_in a.batches.entries } };
+    ghost view = { λ a. record { is_whole = a.is_whole; numbers = map (λ entry. (entry.0, entry.1.keys)) a.batches.entries } };
 }
 
 impl Listing {
@@ -74,7 +75,7 @@ impl Listing {
         ensures { MatchOption result ((number : ℕ) → may_stop self.now stop.now number ≡ true)
             (λ numbers. (number : ℕ) → may_stop self.now stop.now number ≡ has_number numbers.now number) }
     {
-        let Stop::Recall(key) = *stop else {
+        let Stop::OfBatch(key) = *stop else {
             return None;
         };
         if !self.is_whole {

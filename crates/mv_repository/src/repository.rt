@@ -1,7 +1,7 @@
 //! A national repository: its log, the tables of it, and what it knows of its own queries.
 
 ghost use Rattle.std.specs.Prelude.{◌≡◌};
-ghost use Rattle.mv_repository.specs.Clauses.{IfOk, OnErr, OnOk, [], answer_after, answer_to, batch_key, counts_of, effect_of, found_of, history_of, is_recalled, is_withdrawn, items_from, joint_verdict, local_verdict, new_repository, option_copied, pack_state, product_of, recalled_batches, track_of, with_applied, withdrawn_products};
+ghost use Rattle.mv_repository.specs.Clauses.{IfOk, OnErr, OnOk, [], answer_after, answer_to, batch_key, counts_of, effect_of, found_of, history_of, is_recalled, is_withdrawn, items_from, joint_verdict, local_verdict, new_repository, option_copied, pack_state, product_of, recalled_batches, serials_of, track_of, with_applied, withdrawn_products};
 
 use crate::entry::message_at;
 use crate::history::Places;
@@ -10,12 +10,27 @@ use crate::shelf::Counted;
 use crate::state::held_at;
 use crate::tables::Tables;
 use crate::verdict::{found_active, found_explained, verdict_when};
-use crate::{Counts, Effect, FromSender, Held, History, Joint, Local, LogEntry};
+use crate::{Effect, FromSender, Held, History, Joint, Local, LogEntry};
 use mv_link::Item;
 use mv_message::{Found, Message, Party, Product, Shared};
-use mv_pack::{BatchKey, Gtin, PackKey};
+use mv_pack::{BatchKey, Gtin, PackKey, Serial};
 use std::alloc::{AllocError, Global};
 use std::marker::Model;
+
+/// How much a repository has, each thing counted once.
+#[derive(Clone, Copy, Debug, PartialEq, Eq)]
+pub struct Counts {
+    /// The entries of the log.
+    pub entries: usize,
+    /// The product codes with a master.
+    pub products: usize,
+    /// The packs that are held.
+    pub packs: usize,
+    /// Those of them that are active.
+    pub active: usize,
+    /// The batches that were recalled.
+    pub recalled: usize,
+}
 
 /// A national repository, seen as its party and its log. No reader searches the log: each goes by tables.
 #[derive(Drop)]
@@ -34,8 +49,7 @@ pub struct Repository {
 
 impl Model for Repository {
     ghost use Rattle.mv_repository.specs.Repository.{RepositoryState};
-    ghost use Rattle.mv_repository.specs.Inquiries.{IsInquiriesOf};
-    ghost use Rattle.mv_repository.specs.Tables.{AreTablesOf};
+    ghost use Rattle.mv_repository.specs.Tables.{AreTablesOf, IsInquiriesOf};
 
     ghost Value = { RepositoryState };
 
@@ -131,6 +145,15 @@ impl Repository {
         History { places }
     }
 
+    /// The serial numbers of a product that uploads and statuses name, each once, in the order in which each came first.
+    /// One that only statuses name is no pack yet: `pack` gives none.
+    pub fn serials(&self, gtin: &Gtin) -> &[Serial]
+        ensures { result.now ≡ serials_of self.now.log gtin.now }
+    {
+        let shelf = self.tables.shelves.get(gtin);
+        shelf.map_or(&[], |shelf| shelf.serials())
+    }
+
     /// Whether a batch is recalled.
     pub fn recalled(&self, batch: &BatchKey) -> bool
         ensures { result ≡ is_recalled batch.now self.now.log }
@@ -166,7 +189,7 @@ impl Repository {
         Counts {
             entries: self.log.len(),
             products: self.tables.masters.len(),
-            packs: self.tables.count(Counted::Held),
+            packs: self.tables.count(Counted::Every),
             active: self.tables.count(Counted::Active),
             recalled: self.tables.stops.recalls.len(),
         }
@@ -243,6 +266,8 @@ impl Repository {
         if place > u32::MAX as usize {
             return Err(AllocError);
         }
+        self.inquiries.reserve()?;
+        self.log.reserve(1)?;
         let answer = match self.answer(sender, item) {
             Some(answer) => Some(Shared::new(self.alloc, answer)?),
             None => None,
@@ -250,8 +275,6 @@ impl Repository {
         let Ok(copy) = item.copy() else {
             return Err(AllocError);
         };
-        self.inquiries.reserve()?;
-        self.log.reserve(1)?;
         self.log.push_reserved(LogEntry { sender, item: copy });
         match self.tables.add(self.log.as_slice(), place as u32) {
             Ok(effect) => {

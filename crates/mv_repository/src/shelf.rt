@@ -1,11 +1,11 @@
 //! What is kept of each pack of one product, by serial numbers alone. This file knows no other product.
 
 ghost use Rattle.std.specs.Prelude.{◌≡◌, ◌<◌, ◌≤◌, ◌+◌, ◌==◌};
-ghost use Rattle.mv_repository.specs.Clauses.{AreStopsOf, IfOk, IsAgain, IsDistinct, IsRefreshed, IsShelfOf, IsTrack, IsUploadOf, List, OnErr, OnOk, Some, [], bare, batch_at, bytes_eq, comes_first, earlier_place, newest_effect, entry_at, false, get_or, is_counted, is_status_of, is_stop, kept_by, kept_in, keys_of, length, is_listed_in, may_stop, no_shelf, nothing_kept, slots_counted, stopped_product, stops_in, take, true, ℕ};
+ghost use Rattle.mv_repository.specs.Clauses.{AreStopsOf, IfOk, IsAgain, IsDistinct, IsRefreshed, IsShelfOf, IsTrack, IsUploadOf, List, OnErr, OnOk, Some, [], bare, batch_at, bytes_eq, comes_first, earlier_place, newest_effect, entry_at, false, get_or, insert_key, is_counted, is_status_of, is_stop, kept_by, kept_in, keys_of, length, is_listed_in, may_stop, no_shelf, nothing_kept, slots_counted, stopped_product, stops_in, take, true, ℕ};
 
 use crate::Effect;
+use crate::entry::passes;
 use crate::listing::Listing;
-use crate::order::passes;
 use crate::state::Newest;
 use crate::stops::Stop;
 use crate::track::Track;
@@ -27,8 +27,8 @@ pub(crate) enum Slot {
 /// Which packs are counted.
 #[derive(Clone, Copy)]
 pub(crate) enum Counted {
-    /// Those that are held.
-    Held,
+    /// Every one that is held.
+    Every,
     /// Those that are held, and active.
     Active,
 }
@@ -118,13 +118,20 @@ impl Shelf {
         self.kept(self.slots.get(serial).copied())
     }
 
+    /// The serial numbers that have a slot, in the order in which each came first.
+    pub fn serials(&self) -> &[Serial]
+        ensures { result.now ≡ keys_of self.now.slots }
+    {
+        self.slots.keys().as_slice()
+    }
+
     /// Whether the pack that a slot stands for is counted.
     fn is_counted(&self, counted: Counted, slot: Slot) -> bool
         ensures { result ≡ is_counted counted (kept_by self.now.tracks (Some slot)) }
     {
         let (birth, _, by) = self.kept(Some(slot));
         match counted {
-            Counted::Held => birth.is_some(),
+            Counted::Every => birth.is_some(),
             Counted::Active => birth.is_some_and(|birth| birth == by),
         }
     }
@@ -142,10 +149,12 @@ impl Shelf {
 
     /// Adds the newest entry, an upload, to what is kept of one pack that it names; whether it is the first such by stamp. Where it is,
     /// the pack's track is listed under its batch.
+    #[tactic(auto, using(crate::proofs::StoppedLemmas::key_added))]
     fn put_upload(&mut self, newest: &Newest<'_>, gtin: &Gtin, serial: &Serial) -> bool
         requires room { 0 < self.old.room }
         requires worked { IsTrack newest.now.log.now (stops_in newest.now.log.now newest.now.stops.now) gtin.now (kept_in self.old serial.now) }
         ensures room { self.old.room ≤ self.new.room + 1 }
+        ensures keys { keys_of self.new.slots ≡ insert_key bytes_eq (keys_of self.old.slots) serial.now }
         ensures again { IsAgain newest.now.log.now (stops_in newest.now.log.now newest.now.stops.now) gtin.now
             (earlier_place newest.now.log.now newest.now.place (kept_in self.old serial.now).birth) (kept_in self.old serial.now) (kept_in self.new serial.now) }
         ensures others { (other : List ℕ) → bytes_eq serial.now other ≡ false → kept_in self.new other ≡ kept_in self.old other }

@@ -4,9 +4,8 @@
 ghost use Rattle.std.specs.Prelude.{◌≡◌, ◌+◌, length};
 ghost use Rattle.mv_repository.specs.Clauses.{KnownChange, change_in, effect_in, effect_on, entry_at, entry_in, fold, held_at, is_active, next_in, option_map, revert_effect, standing_at, standing_in, start_in, stops_of};
 
-use crate::entry::{message_at, sender_at};
+use crate::entry::{message_at, sender_at, stands_before};
 use crate::held::REVERT_SECONDS;
-use crate::order::stands_before;
 use crate::stops::{BatchStanding, Stops};
 use crate::{Change, Effect, Held, LogEntry};
 use mv_message::{Message, Party, Standing};
@@ -175,8 +174,7 @@ impl Basis<'_> {
     {
         let mut last = by;
         for place in own {
-            let (_, next) = self.next(last, *place);
-            last = next;
+            last = self.next(last, *place).1;
         }
         last
     }

@@ -5,7 +5,7 @@ ghost use Rattle.std.specs.Prelude.{◌≡◌, ◌+◌};
 ghost use Rattle.mv_repository.specs.Clauses.{AreStopsOf, HasFirst, IfOk, OnErr, OnOk, comes_first, entry_at, first_place, is_stop, length, lookup, standing_at, stopped_product, stops_in, take, true};
 
 use crate::LogEntry;
-use crate::order::{comes_first, is_before};
+use crate::entry::{comes_first, is_before};
 use indexmap::IndexMap;
 use mv_pack::{BatchKey, Gtin};
 use std::alloc::AllocError;
@@ -24,9 +24,9 @@ pub struct BatchStanding {
 #[derive(Clone, Copy)]
 pub(crate) enum Stop<'a> {
     /// A recall of a batch.
-    Recall(&'a BatchKey),
+    OfBatch(&'a BatchKey),
     /// A withdrawal of a product.
-    Withdrawal(&'a Gtin),
+    OfProduct(&'a Gtin),
 }
 
 impl<'a> Stop<'a> {
@@ -35,8 +35,8 @@ impl<'a> Stop<'a> {
         ensures { result.now ≡ stopped_product self.now }
     {
         match *self {
-            Stop::Recall(batch) => &batch.gtin,
-            Stop::Withdrawal(gtin) => gtin,
+            Stop::OfBatch(batch) => &batch.gtin,
+            Stop::OfProduct(gtin) => gtin,
         }
     }
 }
@@ -74,8 +74,8 @@ impl Stops {
         ensures err { OnErr result (AreStopsOf (take place log.now) self.new) }
     {
         match *stop {
-            Stop::Recall(batch) => add_first(&mut self.recalls, log, batch.copy(), place),
-            Stop::Withdrawal(gtin) => add_first(&mut self.withdrawals, log, *gtin, place),
+            Stop::OfBatch(batch) => add_first(&mut self.recalls, log, batch.copy(), place),
+            Stop::OfProduct(gtin) => add_first(&mut self.withdrawals, log, *gtin, place),
         }
     }
 }

@@ -1,10 +1,9 @@
 //! The tables that a repository keeps of its log, and what one more entry does to them.
 
 ghost use Rattle.std.specs.Prelude.{◌≡◌, ◌+◌};
-ghost use Rattle.mv_repository.specs.Clauses.{AnEntry, AreTablesOf, IfOk, List, OnErr, OnOk, [], distinct_count, entry_at, filter, is_counted, is_same_pack, is_stop, length, newest_effect, take, track_of, true, uploaded_packs};
+ghost use Rattle.mv_repository.specs.Clauses.{AnEntry, AreMastersOf, AreTablesOf, IfOk, List, OnErr, OnOk, [], distinct_count, entry_at, filter, is_counted, is_master, is_same_pack, is_stop, length, newest_effect, take, track_of, true, uploaded_packs};
 
-use crate::entry::message_at;
-use crate::masters::add_master;
+use crate::entry::{message_at, passes};
 use crate::shelf::{Counted, Shelf};
 use crate::state::Newest;
 use crate::stops::{Stop, Stops};
@@ -97,8 +96,8 @@ impl Tables {
                 let shelf = shelf.or_insert(Shelf::new(self.alloc));
                 shelf.add_status(self.alloc, &newest, key)
             }
-            Message::Recall { key, .. } => self.add_stop(log, &Stop::Recall(key), place),
-            Message::Withdraw { gtin, .. } => self.add_stop(log, &Stop::Withdrawal(gtin), place),
+            Message::Recall { key, .. } => self.add_stop(log, &Stop::OfBatch(key), place),
+            Message::Withdraw { gtin, .. } => self.add_stop(log, &Stop::OfProduct(gtin), place),
             _ => Ok(Effect::Noted),
         }
     }
@@ -131,4 +130,25 @@ impl Tables {
         shelf.refresh(&newest, stop);
         Ok(Effect::Done)
     }
+}
+
+/// Adds the newest entry, a master of a code; where it is the last by stamp it is the one that the table finds. Where
+/// memory is refused nothing has changed.
+fn add_master(
+    masters: &mut IndexMap<Gtin, u32>,
+    log: &[LogEntry],
+    gtin: Gtin,
+    place: u32,
+) -> Result<(), AllocError>
+    requires last { length log.now ≡ place + 1 }
+    requires master { is_master gtin (entry_at log.now place).entry.item ≡ true }
+    requires masters { AreMastersOf (take place log.now) masters.old.entries }
+    ensures ok { OnOk result (AreMastersOf log.now masters.new.entries) }
+    ensures err { OnErr result (masters.new.entries ≡ masters.old.entries) }
+{
+    let last = masters.get(&gtin).copied();
+    if last.is_none_or(|last| !passes(log, place, last)) {
+        masters.insert(gtin, place)?;
+    }
+    Ok(())
 }

@@ -2,10 +2,10 @@
 //! which the pack stands behind them. This file knows no other pack.
 
 ghost use Rattle.std.specs.Prelude.{◌≡◌, ◌≤◌};
-ghost use Rattle.mv_repository.specs.Clauses.{AreStopsOf, Ascends, IfOk, IsAgain, IsKept, IsTrack, OnErr, OnOk, [], bare, comes_first, earlier_place, newest_effect, entry_at, insert, is_status_of, length, life_of, map, not, passes, places_before, put_place, stops_in, take, true, unwrap_or};
+ghost use Rattle.mv_repository.specs.Clauses.{AreStopsOf, Ascends, IfOk, IsAgain, IsKept, IsTrack, OnErr, OnOk, [], IsPartitionPoint, bare, comes_first, earlier_place, newest_effect, entry_at, false, is_status_of, length, life_of, map, not, passes, stops_in, take, true, unwrap_or};
 
 use crate::blocks::{Block, put_late};
-use crate::order::{comes_first, passes};
+use crate::entry::{comes_first, passes};
 use crate::state::{Basis, Newest};
 use crate::{Effect, LogEntry};
 use mv_pack::{Gtin, PackKey};
@@ -16,8 +16,8 @@ use std::marker::Model;
 fn place_for(log: &[LogEntry], statuses: &[u32], new: u32) -> usize
     requires ascend { Ascends (map (entry_at log.now) statuses.now) }
     ensures within { result ≤ length statuses.now }
-    ensures put { insert statuses.now result new ≡ put_place log.now new statuses.now }
-    ensures before { take result statuses.now ≡ places_before log.now new statuses.now }
+    ensures cut { IsPartitionPoint (λ place. passes (entry_at log.now new) (entry_at log.now place) ≡ false)
+        (λ place. passes (entry_at log.now new) (entry_at log.now place) ≡ true) statuses.now result }
 {
     statuses.partition_point(
         |place: &u32| -> bool

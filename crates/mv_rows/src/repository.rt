@@ -72,7 +72,12 @@ const WITHDRAWAL: &str =
 const OTHER_RECALL: &str =
     "{\"at\":1800000010,\"batch\":\"B2\",\"gtin\":\"09506000134352\",\"msg\":\"recall\"}";
 
-/// What is sent under a stamp: 1 the upload, 2 and 3 the statuses, 4 the recall, 5 the withdrawal, 6 the other recall.
+/// Another pack of the product is supplied, which nobody uploads.
+const OTHER_SUPPLY: &str =
+    "{\"at\":1800000000,\"gtin\":\"09506000134352\",\"msg\":\"status\",\"serial\":\"S2\",\"to\":\"supplied\",\"user\":\"u1\"}";
+
+/// What is sent under a stamp: 1 the upload, 2 and 3 the statuses, 4 the recall, 5 the withdrawal, 6 the other recall, 7 the status
+/// of another pack.
 fn text_of(stamp: u32) -> &'static str {
     match stamp {
         1 => UPLOAD,
@@ -80,7 +85,8 @@ fn text_of(stamp: u32) -> &'static str {
         3 => REVERT,
         4 => RECALL,
         5 => WITHDRAWAL,
-        _ => OTHER_RECALL,
+        6 => OTHER_RECALL,
+        _ => OTHER_SUPPLY,
     }
 }
 
@@ -176,4 +182,44 @@ fn are_listed(alloc: Global) -> bool {
 #[test]
 fn lists_what_is_recalled_and_withdrawn(rt: HostRuntime) {
     assert!(rt; are_listed(rt.alloc()));
+}
+
+/// How many packs of a product a repository holds.
+fn held_count(repository: &Repository, gtin: Gtin) -> usize {
+    let mut count = 0usize;
+    for serial in repository.serials(&gtin) {
+        let serial = serial.copy();
+        if repository.pack(&PackKey { gtin, serial }).is_some() {
+            count = count.saturating_add(1);
+        }
+    }
+    count
+}
+
+/// Whether the serial numbers of a product are S2 and S1.
+fn lists_serials(repository: &Repository, gtin: Gtin) -> bool {
+    match repository.serials(&gtin) {
+        [first, second] => first.as_str() == "S2" && second.as_str() == "S1",
+        _ => false,
+    }
+}
+
+/// Whether that is so where a status names S2 before the upload of S1 comes, and S1 alone is held. Another product has none.
+fn goes_through(repository: &mut Repository, alloc: Global) -> Option<bool> {
+    let gtin = Gtin::read("09506000134352").ok()?;
+    let other = Gtin::read("04012345678901").ok()?;
+    apply_all(repository, alloc, &[7, 1, 2, 7])?;
+    let lists = lists_serials(repository, gtin) && repository.serials(&other).is_empty();
+    Some(lists && held_count(repository, gtin) == 1)
+}
+
+/// Whether it is so with a repository where nothing has happened.
+fn are_gone_through(alloc: Global) -> bool {
+    let mut repository = Repository::new(alloc, 1);
+    goes_through(&mut repository, alloc) == Some(true)
+}
+
+#[test]
+fn goes_through_the_packs_of_a_product(rt: HostRuntime) {
+    assert!(rt; are_gone_through(rt.alloc()));
 }

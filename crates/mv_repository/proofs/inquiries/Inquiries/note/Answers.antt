@@ -6,9 +6,9 @@ pub returns-in_default : goal.returns-in_default
 returns-in_default c log = search (rules, known_stays, tells_nothing)
 
 -- the item is the receipt of a query of the party
-pub returns-in-Receipt : goal.returns-in-Receipt
-returns-in-Receipt c log =
-    receipt_noted c.args.party log c.args.sender c.args.item.now c.in-Some.query c.args.self.now _ _ _ _ c.in-Receipt.is (search rules)
+pub returns-in_default-item : goal.returns-in_default-item
+returns-in_default-item c log =
+    receipt_noted c.args.party log c.args.sender c.args.item.now c.in-Some.query c.args.self.now _ c.in_default-item.not-Carried (search rules)
     (λ q. search rules) (λ q other. refl)
 
 -- the item is an answer to a query of the party

@@ -2,11 +2,11 @@
 use Rattle.mv_repository.proofs.Lemmas.{rules, on_map, recall-added, withdrawal-added, arith}
 use Rattle.mv_repository.proofs.stops.Stops.add.Goals as goal
 
-pub returns-in-Recall-clause-ok : goal.returns-in-Recall-clause-ok
-returns-in-Recall-clause-ok c =
+pub returns-in-OfBatch-clause-ok : goal.returns-in-OfBatch-clause-ok
+returns-in-OfBatch-clause-ok c =
     on_map c.add_first.result c.add_first.ensures.ok (λ has.
     let are = recall-added c.args.log.now c.args.place c.requires.last c.args.self.now c.copy.result c.add_first.new.places.entries c.requires.stops (search rules) has in
     record { recalls = are.0; withdrawals = are.1 })
 
-pub returns-in-Withdrawal-clause-ok : goal.returns-in-Withdrawal-clause-ok
-returns-in-Withdrawal-clause-ok c = grind (arith, withdrawal-added)
+pub returns-in-OfProduct-clause-ok : goal.returns-in-OfProduct-clause-ok
+returns-in-OfProduct-clause-ok c = grind (arith, withdrawal-added)

@@ -28,7 +28,7 @@ returns-in_err-effect-in-Upload-clause-err c =
       stops = c.requires.tables.stops;
       named = c.requires.tables.named;
       shelves = shelves-follow c.args.self.now.shelves.entries _ c.in-Upload.gtin c.add_upload.new.self (λ other. search (rules, (c.in_ok-shelf-in-Upload.ensures.update.0 c.add_upload.new.self).0 other))
-          before before c.requires.tables.shelves c.in_err-effect-in-Upload.ensures.err (λ other serial e. refl);
+          before before c.requires.tables.shelves c.in_err-effect-in-Upload.ensures.err (λ other e. (λ serial. refl, refl));
     })
 
 -- the entry is the upload
@@ -71,7 +71,7 @@ returns-in_ok-shelf-in-Status-clause-err c =
       stops = c.requires.tables.stops;
       named = c.requires.tables.named;
       shelves = shelves-follow c.args.self.now.shelves.entries _ c.in-Status.key.gtin c.add_status.new.self (λ other. grind (arith, common_steps, (c.in_ok-shelf-in-Status.ensures.update.0 c.add_status.new.self).0 other))
-          before before c.requires.tables.shelves now (λ other serial e. refl);
+          before before c.requires.tables.shelves now (λ other e. (λ serial. refl, refl));
     })
 
 pub returns-in_default-clause-ok : goal.returns-in_default-clause-ok

@@ -1,6 +1,6 @@
 -- The first works out the packs that it may bear on; any other changes none.
 use Rattle.std.specs.Prelude.{◌≡◌}
-use Rattle.mv_repository.proofs.Lemmas.{bytes_eq, rules, ap, subst, get_or, take, true, false, Option, None, lookup, unwrap_or, pack_key, ShelfTable, IsShelfOf, no_shelf, shelf_of, no_entry, stopped_product, shelf-empty, masters-at, shelves-at, named-at, IsShelved, shelved-none, shelves-follow, stop-form, stop-does, stop-leaves, stop-away}
+use Rattle.mv_repository.proofs.Lemmas.{bytes_eq, rules, ap, subst, get_or, take, true, false, Option, None, lookup, unwrap_or, ShelfTable, IsShelfOf, no_shelf, shelf_of, no_entry, stopped_product, shelf-empty, masters-at, shelves-at, named-at, IsShelved, shelved-none, shelves-follow, stop-form, stop-does, stop-leaves, stop-away}
 use Rattle.mv_repository.proofs.tables.Tables.add_stop.Goals as goal
 
 pub returns-then-not-branch-clause-ok : goal.returns-then-not-branch-clause-ok
@@ -21,9 +21,9 @@ returns-in_default-clause-ok c =
       stops = c.in_ok-add.ensures.ok;
       shelves = shelves-follow c.args.self.now.shelves.entries c.get_mut.follows.lender-at-none.entries gtin no_shelf (shelved-none c.args.self.now.shelves.entries _ gtin same empty)
           c.args.log.now (take c.args.place c.args.log.now) c.requires.tables.shelves
-          (shelf-empty c.args.log.now c.args.place c.add.new.self gtin c.requires.last c.in_ok-add.ensures.ok (λ serial. form.0.0 (pack_key gtin serial))
+          (shelf-empty c.args.log.now c.args.place c.add.new.self gtin c.requires.last c.in_ok-add.ensures.ok form.0
           (subst (IsShelfOf (take c.args.place c.args.log.now) gtin) empty (c.requires.tables.shelves gtin)))
-          (λ other serial e. stop-away c.args.log.now c.args.place c.requires.last c.args.stop.now c.requires.stop (pack_key other serial) e);
+          (stop-away c.args.log.now c.args.place c.requires.last c.args.stop.now c.requires.stop);
       named = named-at c.args.log.now c.args.place c.requires.last c.args.self.now.named form.0.1 c.requires.tables.named;
     }
 
@@ -44,7 +44,7 @@ returns-clause-ok c =
       masters = masters-at c.args.log.now c.args.place c.requires.last c.args.self.now.masters.entries form.1 c.requires.tables.masters;
       stops = c.in_ok-add.ensures.ok;
       shelves = shelves-follow c.args.self.now.shelves.entries new (stopped_product c.args.stop.now) c.refresh.new.self looks c.args.log.now (take c.args.place c.args.log.now) c.requires.tables.shelves c.refresh.ensures
-          (λ other serial e. stop-away c.args.log.now c.args.place c.requires.last c.args.stop.now c.requires.stop (pack_key other serial) e);
+          (stop-away c.args.log.now c.args.place c.requires.last c.args.stop.now c.requires.stop);
       named = named-at c.args.log.now c.args.place c.requires.last c.args.self.now.named form.0.1 c.requires.tables.named;
     }
 

@@ -1,6 +1,6 @@
 -- The status is put in, and what stands behind it worked out.
 use Rattle.std.specs.Prelude.{◌≡◌, ◌≤◌}
-use Rattle.mv_repository.proofs.Lemmas.{◌∙◌, ℕ, List, ap, sym, subst, rules, length, take, insert, get_or, fold, refl, option_map, unwrap_or, AreBlocks, without, next_place, effect_on, entry_at, stops_in, no_entry, Kept, IsKept, life_of, put_place, places_before, arith, common_steps, without-insert, log-split, log-length, put-ascend, put-blocks, put-standing, put-status}
+use Rattle.mv_repository.proofs.Lemmas.{◌∙◌, ℕ, List, ap, sym, subst, rules, length, take, insert, get_or, fold, refl, option_map, unwrap_or, AreBlocks, without, next_place, effect_on, entry_at, stops_in, no_entry, Kept, IsKept, life_of, IsCutFor, arith, common_steps, without-insert, log-split, log-length, put-ascend, put-blocks, put-standing, put-status}
 use Rattle.mv_repository.proofs.track.Track.add_status.Goals as goal
 
 pub place_for-at-requires : goal.place_for-at-requires
@@ -41,8 +41,7 @@ returns c =
     (subst (IsKept (life_of c.args.pack.now log)) (sym c.self.view_is) c.requires.kept) whole place (log-split whole place c.args.newest.now.last) (log-length whole place c.args.newest.now.last)
     (record {
       within = subst (λ (l : List ℕ). at ≤ length l) slice c.place_for-at.ensures.within;
-      put = subst (λ (l : List ℕ). insert l at place ≡ put_place whole place l) slice c.place_for-at.ensures.put;
-      before = subst (λ (l : List ℕ). take at l ≡ places_before whole place l) slice c.place_for-at.ensures.before;
+      cut = subst (λ (l : List ℕ). IsCutFor whole place l at) slice c.place_for-at.ensures.cut;
       birth = refl;
       statuses = search rules;
       worked = record {

@@ -1,6 +1,6 @@
 use Rattle.std.specs.Prelude.{◌≡◌}
 use Rattle.mv_repository.proofs.Words.{length, items_from}
-use Rattle.mv_repository.proofs.sender.FromSenderIterator.next.Given as goal
+use Rattle.mv_repository.proofs.entry.FromSenderIterator.next.Given as goal
 
 -- the entries that were passed are of other parties
 abbrev pub invariant-loop-entry : goal.invariant-loop-entry

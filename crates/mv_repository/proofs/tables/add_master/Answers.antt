@@ -1,7 +1,7 @@
 -- A late master leaves the table; any other takes the place of its code.
 use Rattle.std.specs.Prelude.{◌≡◌}
 use Rattle.mv_repository.proofs.Lemmas.{bytes_eq, rules, false, lookup, comes_late, masters-late-at, masters-latest-at, arith}
-use Rattle.mv_repository.proofs.masters.add_master.Goals as goal
+use Rattle.mv_repository.proofs.tables.add_master.Goals as goal
 
 pub returns-else-is_none_or-clause-ok : goal.returns-else-is_none_or-clause-ok
 returns-else-is_none_or-clause-ok c = grind (arith, masters-late-at)

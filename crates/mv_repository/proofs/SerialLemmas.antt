@@ -1,0 +1,33 @@
+-- The serial numbers of a product that a log names, after one more entry.
+use Rattle.std.specs.Prelude.{◌≡◌, ◌+◌, ◌∷◌}
+use Rattle.mv_repository.proofs.Words.{bytes_eq, ℕ, List, [], length, get_or, take, fold, sym, ◌∙◌, ap, subst, true, true≢false, cond, insert_key, Item, Carried, Upload, Status, pack_key, PackKey, LogEntry, ShelfTable, IsPackOf, IsShelfOf, IsUploadOf, Life, life_of, is_status_of, no_entry, serials_in, serials_of}
+use Rattle.mv_repository.proofs.KeptLemmas.{same_pack}
+use Rattle.mv_repository.proofs.StoppedLemmas.{once-all}
+use Rattle.mv_repository.proofs.TableLemmas.{log-split}
+
+-- those that the newest entry names are put in, one after another
+pub serials-at : (whole : List LogEntry) (place : ℕ) (gtin : List ℕ) (serials : List (List ℕ)) → length whole ≡ place + 1 → serials_in gtin (get_or whole place no_entry).item ≡ serials
+    → serials_of whole gtin ≡ fold (insert_key bytes_eq) (serials_of (take place whole) gtin) serials
+serials-at whole place gtin serials l e =
+    ap (λ (log : List LogEntry). serials_of log gtin) (log-split whole place l)
+    ∙ once-all bytes_eq (λ (one : LogEntry). serials_in gtin one.item) (take place whole) (get_or whole place no_entry) serials e
+
+pub upload-serials : (other gtin : List ℕ) (serials : List (List ℕ)) (item : Item) → IsUploadOf item gtin serials → serials_in other item ≡ cond (bytes_eq gtin other) serials []
+upload-serials other gtin serials (Carried k stamp (Upload named batch expiry national packs)) u = λ i. cond (bytes_eq (u.0 i) other) (u.1 i) []
+upload-serials other gtin serials _ u = absurd u
+
+pub status-serials : (other : List ℕ) (pack : PackKey) (item : Item) → is_status_of pack item ≡ true → serials_in other item ≡ cond (bytes_eq pack.gtin other) (pack.serial ∷ []) []
+status-serials other pack (Carried k stamp (Status key to user at)) e = ap (λ (q : PackKey). cond (bytes_eq q.gtin other) (q.serial ∷ []) []) (same_pack key pack e)
+status-serials other pack _ e = absurd (true≢false (sym e))
+
+-- the packs of a product are by one log what they are by another
+abbrev pub AreSamePacks : List LogEntry → List LogEntry → List ℕ → Type 0
+AreSamePacks whole before gtin =
+    ((serial : List ℕ) → life_of (pack_key gtin serial) whole ≡ life_of (pack_key gtin serial) before) × (serials_of whole gtin ≡ serials_of before gtin)
+
+-- so its shelf stays
+pub shelf-stays : (whole before : List LogEntry) (gtin : List ℕ) (shelf : ShelfTable) → AreSamePacks whole before gtin → IsShelfOf before gtin shelf → IsShelfOf whole gtin shelf
+shelf-stays whole before gtin shelf same of = record {
+  packs = λ serial. subst (λ (l : Life). IsPackOf l shelf serial) (sym (same.0 serial)) (of.packs serial);
+  serials = of.serials ∙ sym same.1;
+}

@@ -1,12 +1,11 @@
 -- A value is read as a message exactly where it is a spelling of it; what is read is legal, and the value of what is legal spells it.
-use Rattle.mv_json.proofs.Words.{Absent, AllByRecursion, AreLegal, AreSpelled, Data, Field, Found, Has, HasOnly, IsIn, IsLegal, IsLegalFound, IsStrictlySortedBy, Making, Meaning, Members, Message, MessageFault, One, PackKey, Present, Reads, Spells, SpellsFound, Standing, Two, Unknown, Version, contents_of, field_name, fields_of, first_fault, first_unknown, form_at, form_name, form_named, form_of, found_at, found_of, found_value, found_version, get, keys_of, list_any, made_at, making_of, meaning_of, message_at, message_version, names_in, names_of, nat_cmp, object, option_map_or, option_or, part_of, present_at, present_fields, present_of, read_expiry_text, read_gtin_of, read_message, since_two, string, value_in, value_of, version_at, version_of, whole}
+use Rattle.mv_json.proofs.Words.{Absent, AllByRecursion, AreLegal, AreSpelled, Data, Field, Found, HasOnly, IsIn, IsLegal, IsStrictlySortedBy, Making, Meaning, Members, Message, MessageFault, One, PackKey, Present, Reads, SpellsFound, Standing, Two, Unknown, Version, contents_of, field_name, fields_of, first_fault, first_unknown, form_at, form_name, form_named, form_of, found_of, found_parts, found_value, found_version, get, keys_of, list_any, made_at, making_of, meaning_of, message_at, message_version, names_in, names_of, nat_cmp, object, option_map_or, option_or, pack_found, part_of, present_at, present_fields, present_of, read_expiry_text, read_gtin_of, read_message, since_two, string, value_in, value_of, version_at, whole}
 use Rattle.mv_json.proofs.OrderLemmas.{rises, strictly_sorted}
-use Rattle.mv_json.proofs.ReadingLemmas.{each, made, made_ok, parts_agree, made_read, both_ok, given, ok_or_some, same_bytes, unrefused}
-use Rattle.mv_json.specs.Reading.{◌and_then◌}
+use Rattle.mv_json.proofs.ReadingLemmas.{Has, each, made, made_ok, parts_agree, made_read, both_ok, ok_or_some, same_bytes, unrefused}
+use Rattle.mv_json.specs.Reading.{◌and_then◌, field_at}
 use Rattle.mv_json.specs.declared.form.Form.{Form}
-use Rattle.mv_pack.specs.Expiry.{expiry_text, CivilDate}
-use Rattle.mv_pack.specs.Gtin.{read_gtin, IsGtin}
-use Rattle.std.proofs.Common.{◌≡◌, ◌∙◌, ℕ, true, false, not, cond, List, [], ◌∷◌, ap, subst, refl, arith, Bool, bytes_eq, Option, Some, None, Result, Ok, Err, find, Contains, is_some, rules}
+use Rattle.mv_pack.specs.Expiry.{CivilDate}
+use Rattle.std.proofs.Common.{◌≡◌, ◌∙◌, ℕ, true, false, not, cond, List, [], ◌∷◌, ap, subst, refl, arith, Bool, bytes_eq, Option, Some, None, Result, Ok, Err, find, Contains, is_some, rules, IfSome}
 use Rattle.std.proofs.lemmas.Map.Views.{Contains-from_any, list_any-from_Contains}
 use Rattle.std.specs.Cmp.Lexicographic.{nat_list_eq_equiv, slice_cmp}
 use Rattle.std.specs.Result.{result_err}
@@ -51,13 +50,10 @@ IsOfVersion version d = IsVersion version (get (field_name fields.V) d)
 abbrev pub IsOfForm : Version → Form → Data → Type 0
 IsOfForm version form d = HasOnly (names_of version form) d × Has d fields.Msg (string (form_name form))
 
-version_of_ok : (o : Option Data) (version : Version) → version_of o ≡ Ok version → IsVersion version o
-version_of_ok o version h = grind arith
-
 -- an object whose version is read is of that version
 pub version_ok : (d : Data) (version : Version) → version_at d ≡ Ok version → IsOfVersion version d
 unfolding version_at
-version_ok d version h = version_of_ok (get (field_name fields.V) d) version h
+version_ok d version h = grind arith
 
 pub version_read : (d : Data) (version : Version) → IsOfVersion version d → version_at d ≡ Ok version
 unfolding version_at
@@ -67,11 +63,11 @@ form_is_named : (version : Version) (form : Form) → IsIn form version → form
 form_is_named version form h = grind arith
 
 form_ok : (version : Version) (d : Data) (form : Form) → form_at version d ≡ Ok form → Has d fields.Msg (string (form_name form)) × IsIn form version
-unfolding form_at
+unfolding form_at field_at
 form_ok version d form h = search rules
 
 pub form_read : (version : Version) (d : Data) (form : Form) → Has d fields.Msg (string (form_name form)) → IsIn form version → form_at version d ≡ Ok form
-unfolding form_at
+unfolding form_at field_at
 form_read version d form h is_in = rw (h, form_is_named version form is_in) refl
 
 -- a message was read, so the object has a version and a form, and its fields give the message
@@ -100,23 +96,22 @@ made_fault : (A : Type 0) (meaning : Field → Meaning) (listed : List Field) (m
 made_fault A meaning [] made d = refl
 made_fault A meaning (field ∷ rest) makes d = behind ((meaning field).read d) _ _ (λ x. made_fault A meaning rest (makes x) d)
 
-message_fault : (version : Version) (d : Data) (form : Form) → result_err (message_at version form d) ≡ first_fault (meaning_of version form) (fields_of form) d
-unfolding message_at
-message_fault version d form = made_fault Message (meaning_of version form) (fields_of form) (making_of version form) d
-
 -- the fault of an object with a version, a form and the keys of that form is that of the first of its fields that has one
 pub first_fault_is_given : (d : Data) (version : Version) (form : Form) → version_at d ≡ Ok version → form_at version d ≡ Ok form → HasOnly (names_of version form) d → result_err (read_message d) ≡ first_fault (meaning_of version form) (fields_of form) d
-first_fault_is_given d version form of_version of_form known = ap result_err (read_by_fields d version form of_version of_form known) ∙ message_fault version d form
-
-names_rise : (version : Version) (form : Form) → rises (slice_cmp nat_cmp) (names_of version form) ≡ true
-unfolding rises
-names_rise version form = grind arith
+unfolding message_at
+first_fault_is_given d version form of_version of_form known =
+    ap result_err (read_by_fields d version form of_version of_form known) ∙ made_fault Message (meaning_of version form) (fields_of form) (making_of version form) d
 
 -- the names of the fields of a message are in byte order, each once
 pub fields_are_in_order : (version : Version) (form : Form) → IsStrictlySortedBy (slice_cmp nat_cmp) (names_of version form)
-fields_are_in_order version form = strictly_sorted (slice_cmp nat_cmp) (names_of version form) (names_rise version form)
+unfolding rises
+fields_are_in_order version form = strictly_sorted (slice_cmp nat_cmp) (names_of version form) (grind arith)
 
 -- ---- what was found of a pack
+
+-- what the fields of a pack say that was found is legal, where one was
+abbrev IsLegalFound : Version → Found → Type 0
+IsLegalFound version found = IfSome (found_parts version found) (AreLegal (part_of version) present_fields)
 
 -- the pack that these parts make
 abbrev pack_of : List ℕ → CivilDate → Option (List ℕ) → Bool → Standing → Bool → Found
@@ -131,20 +126,18 @@ fields_spelled version part found only h =
 none_found : {A : Type 0} (o : Option A) → is_some o ≡ false → o ≡ None
 none_found o h = grind arith
 
-object_spelled : (version : Version) (part : Data) (found : Found) → present_of version part ≡ Ok found → SpellsFound version part found
+object_read : (version : Version) (part : Data) (found : Found) → present_of version part ≡ Ok found → HasOnly (names_in version present_fields) part × (present_at version part ≡ Ok found)
 unfolding present_of
-object_spelled version part found h = grind (arith, both_ok, unrefused, fields_spelled, all_known, none_found)
+object_read version part found h = grind (arith, both_ok, unrefused, all_known, none_found)
+
+object_spelled : (version : Version) (part : Data) (found : Found) → present_of version part ≡ Ok found → SpellsFound version part found
+object_spelled version part found h = let o = object_read version part found h in fields_spelled version part found o.0 o.1
 
 part_spelled : (version : Version) (part : Data) (found : Found) → found_of version part ≡ Ok found → SpellsFound version part found
 part_spelled version part found h = grind (arith, object_spelled)
 
--- the field `found` says what was found
-abbrev pub HasFound : Version → Data → Found → Type 0
-HasFound version d found = (part : Data) × Has d fields.Found part × SpellsFound version part found
-
 -- a field that is read as what was found spells it
-pub found_ok : (version : Version) (d : Data) (found : Found) → found_at version d ≡ Ok found → HasFound version d found
-unfolding found_at
+pub found_ok : (version : Version) (d : Data) (found : Found) → (pack_found version).read d ≡ Ok found → (pack_found version).Spells d found
 found_ok version d found h = grind (arith, part_spelled)
 
 -- an object that has no other key than the fields of a pack is read as the pack that they give
@@ -152,39 +145,41 @@ pub pack_read : (version : Version) (part : Data) (found : Found) → HasOnly (n
 unfolding present_of
 pack_read version part found (ms, is_object, known) given = grind (arith, none_unknown (names_in version present_fields) (keys_of ms) known)
 
-part_read : (version : Version) (part : Data) (found : Found) → SpellsFound version part found → found_of version part ≡ Ok found
-part_read version part Absent h = ap (found_of version) h
-part_read version part (Present batch expiry national standing recalled withdrawn) (only, spelled) =
-    pack_read version part _ only (made_read Found (part_of version) present_fields pack_of part _
-    (each (part_of version) _ _ (λ field x h. (parts_agree version field).tells.read part x h) present_fields _ spelled))
+-- what spells what was found is read as it, and that is legal
+part_agrees : (version : Version) (part : Data) (found : Found) → SpellsFound version part found → (found_of version part ≡ Ok found) × IsLegalFound version found
+part_agrees version part Absent h = (ap (found_of version) h, tt)
+part_agrees version part (Present batch expiry national standing recalled withdrawn) (only, spelled) = (
+  pack_read version part _ only (made_read Found (part_of version) present_fields pack_of part _
+      (each (part_of version) _ _ (λ field x h. (parts_agree version field).tells.read part x h) present_fields _ spelled)),
+  each (part_of version) _ _ (λ field x h. (parts_agree version field).legal part x h) present_fields _ spelled,
+)
 
 -- a field that spells what was found is read as it
-pub found_read : (version : Version) (d : Data) (found : Found) → HasFound version d found → found_at version d ≡ Ok found
-unfolding found_at
-found_read version d found (part, has, spells) = grind (arith, part_read)
+pub found_read : (version : Version) (d : Data) (found : Found) → (pack_found version).Spells d found → (pack_found version).read d ≡ Ok found
+found_read version d found (part, has, spells) = rw has (part_agrees version part found spells).0
 
 -- ---- messages
 
 -- the value is an object of that version with exactly the message's fields, each a spelling of what the message's says
 abbrev pub ReadsIn : Version → Data → Message → Type 0
-ReadsIn version d m = HasOnly (names_of version (form_of m)) d × AreSpelled (meaning_of version (form_of m)) (fields_of (form_of m)) (contents_of version m) d
+ReadsIn version d m = IsIn (form_of m) version × HasOnly (names_of version (form_of m)) d × AreSpelled (meaning_of version (form_of m)) (fields_of (form_of m)) (contents_of version m) d
 
 -- a field spells what it is read as
 field_spelled : (version : Version) (form : Form) (d : Data) → IsOfVersion version d → IsOfForm version form d → IsIn form version
     → (field : Field) (x : (meaning_of version form field).Value) → (meaning_of version form field).read d ≡ Ok x → (meaning_of version form field).Spells d x
 field_spelled version form d of_version of_form is_in fields.Found x h = found_ok version d x h
-field_spelled version form d of_version of_form is_in fields.Msg x h = (of_form.1, is_in)
-field_spelled version form d of_version of_form is_in fields.V x h = of_version
+field_spelled version form d of_version of_form is_in fields.Msg x h = (of_form.1, tt)
+field_spelled version form d of_version of_form is_in fields.V x h = (of_version, tt)
 field_spelled version form d of_version of_form is_in field x h = (parts_agree version field).tells.ok d x h
 
 message_spelled : (version : Version) (d : Data) (m : Message) (form : Form) → IsOfVersion version d → IsOfForm version form d → IsIn form version → message_at version form d ≡ Ok m → ReadsIn version d m
 unfolding message_at
 message_spelled version d m forms.Answer of_version of_form is_in h =
     let p = made_ok Message (meaning_of version forms.Answer) (fields_of forms.Answer) (making_of version forms.Answer) d m h in
-    subst (ReadsIn version d) p.2 (of_form.0, each (meaning_of version forms.Answer) _ _ (field_spelled version forms.Answer d of_version of_form is_in) (fields_of forms.Answer) p.0 p.1)
+    subst (ReadsIn version d) p.2 (is_in, of_form.0, each (meaning_of version forms.Answer) _ _ (field_spelled version forms.Answer d of_version of_form is_in) (fields_of forms.Answer) p.0 p.1)
 message_spelled version d m form of_version of_form is_in h =
     let p = made_ok Message (meaning_of version form) (fields_of form) (making_of version form) d m h in
-    subst (ReadsIn version d) p.2 (of_form.0, each (meaning_of version form) _ _ (field_spelled version form d of_version of_form is_in) (fields_of form) p.0 p.1)
+    subst (ReadsIn version d) p.2 (is_in, of_form.0, each (meaning_of version form) _ _ (field_spelled version form d of_version of_form is_in) (fields_of form) p.0 p.1)
 
 -- what is read as a message spells it
 pub read_is_spelled : (d : Data) (m : Message) → read_message d ≡ Ok m → Reads d m
@@ -192,12 +187,13 @@ read_is_spelled d m h = let o = opened d m h in (o.0, message_spelled o.0 d m o.
 
 -- ---- a value is read as a message exactly where it is a spelling of it
 
--- a field is read as what it spells
-field_is_read : (version : Version) (form : Form) (d : Data) (field : Field) (x : (meaning_of version form field).Value) → (meaning_of version form field).Spells d x → (meaning_of version form field).read d ≡ Ok x
-field_is_read version form d fields.Found x h = found_read version d x h
-field_is_read version form d fields.Msg x h = refl
-field_is_read version form d fields.V x h = refl
-field_is_read version form d field x h = (parts_agree version field).tells.read d x h
+-- a field is read as what it spells, and that is legal
+field_agrees : (version : Version) (form : Form) (d : Data) (field : Field) (x : (meaning_of version form field).Value) → (meaning_of version form field).Spells d x
+    → ((meaning_of version form field).read d ≡ Ok x) × (meaning_of version form field).IsLegal x
+field_agrees version form d fields.Found x h = (found_read version d x h, (part_agrees version h.0 x h.2).1)
+field_agrees version form d fields.Msg x h = (refl, tt)
+field_agrees version form d fields.V x h = (refl, tt)
+field_agrees version form d field x h = ((parts_agree version field).tells.read d x h, (parts_agree version field).legal d x h)
 
 -- what spells a message has its version and its form
 opened_by : (version : Version) (d : Data) (m : Message) → ReadsIn version d m → IsOfVersion version d × IsOfForm version (form_of m) d × IsIn (form_of m) version
@@ -213,7 +209,7 @@ pub spelled_is_read : (d : Data) (m : Message) → Reads d m → read_message d 
 unfolding message_at
 spelled_is_read d m (version, h) =
     let (of_version, of_form, is_in) = opened_by version d m h in
-    let read = each (meaning_of version (form_of m)) _ _ (field_is_read version (form_of m) d) (fields_of (form_of m)) (contents_of version m) h.1 in
+    let read = each (meaning_of version (form_of m)) _ _ (λ field x h. (field_agrees version (form_of m) d field x h).0) (fields_of (form_of m)) (contents_of version m) h.2 in
     reopened d m version (form_of m) of_version of_form is_in
     (made_read Message (meaning_of version (form_of m)) (fields_of (form_of m)) (making_of version (form_of m)) d (contents_of version m) read ∙ ap (λ x. Ok x) (made_again version m))
 
@@ -226,25 +222,12 @@ found_in_two version found h = grind arith
 in_two : (version : Version) (m : Message) → AreLegal (meaning_of version (form_of m)) (fields_of (form_of m)) (contents_of version m) → IsLegal m
 in_two version (messages.Answer asker q key found) h = (h.0, (found_in_two version found h.1.0, h.1.1))
 in_two version (messages.Upload gtin batch expiry national serials) h = grind arith
-in_two version (messages.Withdraw gtin at) h = (h.0, (h.1.0, (tt, h.1.1.1)))
 in_two version m h = h
-
-found_legal : (version : Version) (part : Data) (found : Found) → SpellsFound version part found → IsLegalFound version found
-found_legal version part Absent h = tt
-found_legal version part (Present batch expiry national standing recalled withdrawn) (only, spelled) =
-    each (part_of version) _ _ (λ field x h. (parts_agree version field).legal part x h) present_fields _ spelled
-
--- what a field spells is legal
-field_is_legal : (version : Version) (form : Form) (d : Data) (field : Field) (x : (meaning_of version form field).Value) → (meaning_of version form field).Spells d x → (meaning_of version form field).IsLegal x
-field_is_legal version form d fields.Found x h = found_legal version h.0 x h.2
-field_is_legal version form d fields.Msg x h = h.1
-field_is_legal version form d fields.V x h = tt
-field_is_legal version form d field x h = (parts_agree version field).legal d x h
 
 -- what spells a message is legal
 spelled_is_legal : (d : Data) (m : Message) → Reads d m → IsLegal m
-spelled_is_legal d m (version, (only, spelled)) =
-    in_two version m (each (meaning_of version (form_of m)) _ _ (field_is_legal version (form_of m) d) (fields_of (form_of m)) (contents_of version m) spelled)
+spelled_is_legal d m (version, (is_in, only, spelled)) =
+    in_two version m (each (meaning_of version (form_of m)) _ _ (λ field x h. (field_agrees version (form_of m) d field x h).1) (fields_of (form_of m)) (contents_of version m) spelled)
 
 -- what is read is legal
 pub read_is_legal : (d : Data) (m : Message) → read_message d ≡ Ok m → IsLegal m
@@ -254,35 +237,20 @@ read_is_legal d m h = spelled_is_legal d m (read_is_spelled d m h)
 only : (names : List (List ℕ)) (ms : Members) → first_unknown names ms ≡ None → HasOnly names (object ms)
 only names ms h = (ms, refl, all_known names (keys_of ms) h)
 
-gtin_spelled : (f : Field) (d : Data) (gtin : List ℕ) → Has d f (string gtin) → IsGtin gtin → Spells read_gtin f d gtin
-gtin_spelled f d gtin has legal = (gtin, has, read_gtin_of gtin legal)
-
-spelled_one : {A P L : Type 0} (x before : A) → x ≡ before → L → (One ≡ Two → P) × (One ≡ One → x ≡ before) × L
-spelled_one x before same legal = (λ e. cc, λ e. same, legal)
-
-spelled_two : {A P L : Type 0} (x before : A) → P → L → (Two ≡ Two → P) × (Two ≡ One → x ≡ before) × L
-spelled_two x before said legal = (λ e. said, λ e. cc, legal)
-
 -- what was found is spelled in the version that says all of it
 found_spelled : (found : Found) → IsLegalFound Two found → SpellsFound (found_version found) (found_value (found_version found) found) found
-found_spelled (Present batch expiry None standing recalled false) h = search (rules, only, read_expiry_text, spelled_one)
-found_spelled (Present batch expiry None standing recalled true) h = search (only, read_expiry_text)
-found_spelled (Present batch expiry (Some national) standing recalled withdrawn) h = search (only, read_expiry_text)
-found_spelled found h = refl
+found_spelled (Present batch expiry None standing recalled false) h = search (rules, only, read_expiry_text)
+found_spelled found h = search (rules, only, read_expiry_text)
 
 answer_spells : (version : Version) (asker q : ℕ) (key : PackKey) (found : Found) → IsLegal (messages.Answer asker q key found) → SpellsFound version (found_value version found) found → Reads (value_in version (messages.Answer asker q key found)) (messages.Answer asker q key found)
-answer_spells One asker q key found h spells = (One, (only (names_of One forms.Answer) _ refl, ((refl, h.0), ((_, refl, spells), ((key.gtin, refl, read_gtin_of key.gtin h.1.1.0), search h depth 16 parts 16)))))
-answer_spells Two asker q key found h spells = (Two, (only (names_of Two forms.Answer) _ refl, ((refl, h.0), ((_, refl, spells), ((key.gtin, refl, read_gtin_of key.gtin h.1.1.0), search h depth 16 parts 16)))))
+answer_spells One asker q key found h spells = (One, (tt, only (names_of One forms.Answer) _ refl, ((refl, h.0), ((_, refl, spells), ((key.gtin, refl, read_gtin_of key.gtin h.1.1.0), search h depth 16 parts 16)))))
+answer_spells Two asker q key found h spells = (Two, (tt, only (names_of Two forms.Answer) _ refl, ((refl, h.0), ((_, refl, spells), ((key.gtin, refl, read_gtin_of key.gtin h.1.1.0), search h depth 16 parts 16)))))
 
 -- the value of a legal message is a spelling of it
 pub value_spells : (m : Message) → IsLegal m → Reads (value_of m) m
-value_spells (messages.Upload gtin batch expiry None serials) h =
-    (One, (only (names_of One forms.Upload) _ refl, ((refl, h.0), ((expiry_text expiry, refl, read_expiry_text expiry h.1.0), ((gtin, refl, read_gtin_of gtin h.1.1.0), ((refl, tt), (spelled_one _ _ refl h.1.1.1.1.0.1, ((refl, h.1.1.1.1.1.0), (refl, tt)))))))))
-value_spells (messages.Upload gtin batch expiry (Some national) serials) h =
-    (Two, (only (names_of Two forms.Upload) _ refl, ((refl, h.0), ((expiry_text expiry, refl, read_expiry_text expiry h.1.0), ((gtin, refl, read_gtin_of gtin h.1.1.0), ((refl, tt), (spelled_two _ _ refl h.1.1.1.1.0.1, ((refl, h.1.1.1.1.1.0), (refl, tt)))))))))
+value_spells (messages.Upload gtin batch expiry None serials) h = (One, (tt, only (names_of One forms.Upload) _ refl, search (h, read_gtin_of, read_expiry_text) depth 16 parts 16))
 value_spells (messages.Answer asker q key found) h = answer_spells (found_version found) asker q key found h (found_spelled found h.1.0)
-value_spells (messages.Query key) h = (One, (only (names_of One forms.Query) _ refl, search (h, gtin_spelled) depth 16 parts 16))
-value_spells m h = (message_version m, (only (names_of (message_version m) (form_of m)) _ refl, search (h, gtin_spelled) depth 16 parts 16))
+value_spells m h = (message_version m, (tt, only (names_of (message_version m) (form_of m)) _ refl, search (h, read_gtin_of, read_expiry_text) depth 16 parts 16))
 
 -- each legal message is read back from its value
 pub reads_back : (m : Message) → IsLegal m → read_message (value_of m) ≡ Ok m

@@ -1,5 +1,5 @@
 -- The names of the library, of the definitions, and of the crates below that the proofs cite, passed on from one place. Declares nothing.
-pub use Rattle.mv_json.specs.Words.{AllByRecursion, Count, Field, IsCode, Kind, Message, MessageFault, One, Pack, PackFault, Two, Unknown, Version, items_view, list_all, list_any, members_view, ok_or, option_map_or, option_or, read_code, view}
+pub use Rattle.mv_json.specs.Words.{AllByRecursion, Count, Field, IsCode, Kind, Message, MessageFault, One, Pack, PackFault, Two, Unknown, Version, items_of, items_view, list_all, list_any, members_view, ok_or, option_map_or, option_or, read_code, view}
 pub use Rattle.json.proofs.Grammar.{closed_array, left, members_end, members_more, skip_value-shorter, value-begin_array, value-begin_object, value_is}
 pub use Rattle.json.specs.Json.{members, parse_map, value}
 unfoldable pub use Rattle.json.specs.Json.{items}
@@ -8,7 +8,7 @@ pub use Rattle.json.specs.Print.{print}
 pub use Rattle.json.specs.Token.{Token, begin_array, begin_object, end_array, end_object, key}
 pub use Rattle.mv_json.specs.Fields.{field_name, names_in}
 pub use Rattle.mv_json.specs.Limits.{most_markets, most_serials}
-pub use Rattle.mv_json.specs.Meanings.{AreLegal, AreSpelled, EachHolds, Has, IsFreeText, IsListOf, IsNational, Making, Meaning, Spells, Values, exactly, first_fault, from_two, made_at, part_of, text_of}
+pub use Rattle.mv_json.specs.Meanings.{AreLegal, AreSpelled, EachHolds, IsListOf, Making, Meaning, Values, exactly, first_fault, from_two, made_at, part_of, text_of}
 pub use Rattle.mv_json.specs.Members.{HasOnly, first_unknown, keys_of}
 pub use Rattle.mv_json.specs.Messages.{message_version, read_bytes, value_in, value_of}
 unfoldable pub use Rattle.mv_json.specs.Messages.{read_message}
@@ -18,8 +18,8 @@ pub use Rattle.mv_json.specs.Parts.{BeginWithMessage, BeginWithPart, BeginWithTe
 unfoldable pub use Rattle.mv_json.specs.Parts.{there}
 pub use Rattle.mv_json.specs.Reading.{read_items, whole_number}
 unfoldable pub use Rattle.mv_json.specs.Reading.{list_at}
-pub use Rattle.mv_json.specs.Shapes.{HasWords, IsIn, IsLegal, IsLegalFound, Reads, SpellsFound, contents_of, fields_of, form_name, form_named, form_of, found_of, found_value, found_version, making_of, meaning_of, names_of, present_at, present_fields, version_of}
-unfoldable pub use Rattle.mv_json.specs.Shapes.{form_at, found_at, message_at, present_of, version_at}
+pub use Rattle.mv_json.specs.Shapes.{IsIn, HasWords, IsLegal, Reads, SpellsFound, contents_of, fields_of, form_name, form_named, form_of, found_of, found_parts, found_value, found_version, making_of, meaning_of, names_of, pack_found, present_at, present_fields}
+unfoldable pub use Rattle.mv_json.specs.Shapes.{form_at, message_at, present_of, version_at}
 pub use Rattle.mv_json.specs.Tokens.{Puts, members_of, members_put, tokens_of, version_member}
 unfoldable pub use Rattle.mv_json.specs.Tokens.{PutsValue}
 pub use Rattle.mv_json.specs.Values.{since_two, strings, whole}

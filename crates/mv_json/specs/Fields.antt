@@ -44,10 +44,6 @@ is_in fields.National One = false
 is_in fields.Withdrawn One = false
 is_in field version = true
 
--- the fields of a version
-abbrev pub fields_in : Version → List Field → List Field
-fields_in version listed = filter (λ field. is_in field version) listed
-
 -- the names of fields in a version
 abbrev pub names_in : Version → List Field → List (List ℕ)
-names_in version listed = map field_name (fields_in version listed)
+names_in version listed = map field_name (filter (λ field. is_in field version) listed)

@@ -1,20 +1,12 @@
 -- What a field means: how its values are read, written and spelled, and which are legal; what the fields of an object say; and the table
 -- of what each field means that is no object.
-use Rattle.mv_json.specs.Words.{AllByRecursion, Data, Field, IsCode, IsExpiry, IsGtin, IsMarket, IsMoment, Members, MessageFault, One, PackFault, Two, Version, array, boolean, expiry_text, get, member, no_members, null, object, option_map_or, option_or, read_code, read_expiry, read_gtin, read_market, result_err, standing_name, string}
+use Rattle.mv_json.specs.Words.{AllByRecursion, Data, Field, IsCode, IsExpiry, IsGtin, IsMarket, IsMoment, Members, MessageFault, PackFault, Version, array, as_bool, as_str, boolean, expiry_text, get, member, no_members, null, object, option_map_or, option_or, read_code, read_expiry, read_gtin, read_market, read_moment, result_err, standing_name, string}
 use Rattle.mv_json.specs.Fields.{field_name}
 use Rattle.mv_json.specs.Limits.{most_markets, most_serials, most_text_bytes}
-use Rattle.mv_json.specs.Reading.{◌and_then◌, read_at, truth_at, moment_at, number_at, count_at, list_at, standing_at, free_text_at, national_at}
+use Rattle.mv_json.specs.Reading.{◌and_then◌, field_at, read_at, whole_number, whole_from, list_at, standing_at, free_text_at, national_at}
 use Rattle.mv_json.specs.Values.{since_two, strings, whole}
-use Rattle.std.specs.Prelude.{⊤, ◌≡◌, ℕ, List, [], ◌∷◌, Option, Some, None, Result, Ok, ◌≤◌, ◌<◌, ◌^◌, false, length}
+use Rattle.std.specs.Prelude.{⊤, ◌≡◌, ℕ, List, [], ◌∷◌, Option, Some, None, Result, Ok, ◌≤◌, ◌<◌, ◌^◌, IfSome, false, length}
 use Rattle.mv_json.specs.declared.field.Field.TheVariants as fields
-
--- the field is this value
-abbrev pub Has : Data → Field → Data → Type 0
-Has value field part = get (field_name field) value ≡ Some part
-
--- the field is a text that the reader takes for x
-abbrev pub Spells : {A : Type 0} → (List ℕ → Result A PackFault) → Field → Data → A → Type 0
-Spells reader field value x = (text : List ℕ) × Has value field (string text) × (reader text ≡ Ok x)
 
 -- What a field means: the values that it has, how one is read of an object, how it is written, if it is said at all, which
 -- objects spell it, and which values are legal.
@@ -25,34 +17,33 @@ pub record Meaning : Type 1 where
   pub Spells : Data → Value → Type 0
   pub IsLegal : Value → Type 0
 
--- values that are spelled by all texts that a reader takes for them, and written as one of these
-abbrev pub text_of : {A : Type 0} → (List ℕ → Result A PackFault) → (A → List ℕ) → (A → Type 0) → Field → Meaning
-text_of {A} reader text IsLegal field = record {
-  Value = A;
-  read = read_at reader field;
-  written = λ x. Some (string (text x));
-  Spells = Spells reader field;
-  IsLegal = IsLegal;
-}
-
--- legal values, which have no spelling but the one in which they are written
-abbrev pub exactly : {A : Type 0} → (Field → Data → Result A MessageFault) → (A → Data) → (A → Type 0) → Field → Meaning
-exactly {A} read value_of IsLegal field = record {
+-- legal values, which have no spelling but as they are written, or left out
+abbrev pub as_written : {A : Type 0} → (Field → Data → Result A MessageFault) → (A → Option Data) → (A → Type 0) → Field → Meaning
+as_written {A} read written IsLegal field = record {
   Value = A;
   read = read field;
-  written = λ x. Some (value_of x);
-  Spells = λ value x. Has value field (value_of x) × IsLegal x;
+  written = written;
+  Spells = λ value x. (get (field_name field) value ≡ written x) × IsLegal x;
   IsLegal = IsLegal;
 }
 
--- the same of fields that came with the second version: of the first the value is always that which stood before
-abbrev pub from_two : {A : Type 0} → Version → A → (Field → Data → Result A MessageFault) → (A → Data) → (A → Type 0) → Field → Meaning
-from_two {A} version before read value_of IsLegal field = record {
-  Value = A;
-  read = λ value. since_two version (Ok before) (read field value);
-  written = λ x. since_two version None (Some (value_of x));
-  Spells = λ value x. (version ≡ Two → Has value field (value_of x)) × (version ≡ One → x ≡ before) × IsLegal x;
-  IsLegal = λ x. (version ≡ One → x ≡ before) × IsLegal x;
+-- the same of values that are always written
+abbrev pub exactly : {A : Type 0} → (Field → Data → Result A MessageFault) → (A → Data) → (A → Type 0) → Field → Meaning
+exactly read value_of IsLegal field = as_written read (λ x. Some (value_of x)) IsLegal field
+
+-- values that are written as a text, and spelled by all texts that a reader takes for them
+abbrev pub text_of : {A : Type 0} → (List ℕ → Result A PackFault) → (A → List ℕ) → (A → Type 0) → Field → Meaning
+text_of reader text IsLegal field = record (exactly (read_at as_str reader) (λ x. string (text x)) IsLegal field) {
+  Spells = λ value x. (said : List ℕ) × (get (field_name field) value ≡ Some (string said)) × (reader said ≡ Ok x);
+}
+
+-- what a field means that came with the second version: of the first the value is always that which stood before
+abbrev pub from_two : Version → (meaning : Meaning) → meaning.Value → Meaning
+from_two version meaning before = record meaning {
+  read = λ value. since_two version (Ok before) (meaning.read value);
+  written = λ x. since_two version None (meaning.written x);
+  Spells = λ value x. since_two version (x ≡ before) (meaning.Spells value x);
+  IsLegal = λ x. since_two version (x ≡ before) (meaning.IsLegal x);
 }
 
 -- what values of these fields make
@@ -99,18 +90,9 @@ AreSpelled meaning listed values value = EachHolds meaning (λ field x. (meaning
 abbrev pub AreLegal : (meaning : Field → Meaning) → (listed : List Field) → Values meaning listed → Type 0
 AreLegal meaning listed values = EachHolds meaning (λ field x. (meaning field).IsLegal x) listed values
 
--- a text of 1 to 200 bytes
-abbrev pub IsFreeText : List ℕ → Type 0
-IsFreeText text = (1 ≤ length text) × (length text ≤ most_text_bytes)
-
 -- 1 to most texts of which that holds
 abbrev pub IsListOf : (List ℕ → Type 0) → ℕ → List (List ℕ) → Type 0
 IsListOf Holds most texts = (1 ≤ length texts) × (length texts ≤ most) × AllByRecursion Holds texts
-
--- a national number, or none
-abbrev pub IsNational : Option (List ℕ) → Type 0
-IsNational None = ⊤
-IsNational (Some number) = IsCode number
 
 -- a product code
 abbrev pub product_code : Field → Meaning
@@ -118,7 +100,7 @@ product_code = text_of read_gtin (λ gtin. gtin) IsGtin
 
 -- a serial number or a batch number
 abbrev pub code : Field → Meaning
-code = exactly (read_at read_code) string IsCode
+code = exactly (read_at as_str read_code) string IsCode
 
 -- serial numbers
 abbrev pub serial_list : Field → Meaning
@@ -134,8 +116,8 @@ abbrev pub kind_of : Version → Field → Field → Meaning
 kind_of version fields.AfterBatch = code
 kind_of version fields.AfterGtin = product_code
 kind_of version fields.AfterSerials = serial_list
-kind_of version fields.Asker = exactly number_at whole (λ party. party < 2 ^ 32)
-kind_of version fields.At = exactly moment_at whole IsMoment
+kind_of version fields.Asker = exactly (field_at (whole_from 0)) whole (λ party. party < 2 ^ 32)
+kind_of version fields.At = exactly (read_at whole_number read_moment) whole IsMoment
 kind_of version fields.Batch = code
 kind_of version fields.BeforeBatch = code
 kind_of version fields.BeforeGtin = product_code
@@ -144,15 +126,16 @@ kind_of version fields.Expiry = text_of read_expiry expiry_text IsExpiry
 kind_of version fields.Gtin = product_code
 kind_of version fields.Markets =
     exactly (list_at read_market most_markets) (λ markets. array (strings markets)) (IsListOf IsMarket most_markets)
-kind_of version fields.National = from_two version None national_at (λ number. option_map_or string number null) IsNational
-kind_of version fields.Q = exactly count_at whole (λ number. (1 ≤ number) × (number < 2 ^ 32))
-kind_of version fields.Recalled = exactly truth_at boolean (λ truth. ⊤)
+kind_of version fields.National = λ field.
+    from_two version (exactly national_at (λ number. option_map_or string number null) (λ number. IfSome number IsCode) field) None
+kind_of version fields.Q = exactly (field_at (whole_from 1)) whole (λ number. (1 ≤ number) × (number < 2 ^ 32))
+kind_of version fields.Recalled = exactly (field_at as_bool) boolean (λ truth. ⊤)
 kind_of version fields.Serial = code
 kind_of version fields.Serials = serial_list
 kind_of version fields.Standing = pack_standing
 kind_of version fields.To = pack_standing
-kind_of version fields.Withdrawn = from_two version false truth_at boolean (λ truth. ⊤)
-kind_of version field = exactly free_text_at string IsFreeText
+kind_of version fields.Withdrawn = λ field. from_two version (exactly (field_at as_bool) boolean (λ truth. ⊤) field) false
+kind_of version field = exactly free_text_at string (λ text. (1 ≤ length text) × (length text ≤ most_text_bytes))
 
 -- what each field means that is no object, and is neither the version nor the form
 abbrev pub part_of : Version → Field → Meaning

@@ -1,28 +1,24 @@
 -- The shape of each form of message: its version and its name, its fields, what each of them means, the message that their values make,
 -- and what they say of it; and that of what was found of a pack.
-use Rattle.mv_json.specs.Words.{Data, Field, Form, Kind, Message, MessageFault, NotObject, One, Two, Version, as_null, as_object, get, null, ok_or, result_ok, string}
+use Rattle.mv_json.specs.Words.{Data, Field, Form, Kind, Message, MessageFault, NotObject, One, Two, Version, as_null, as_object, as_str, get, null, ok_or, option_map_or, result_ok, string}
 use Rattle.mv_json.specs.Fields.{field_name, names_in}
-use Rattle.mv_json.specs.Meanings.{part_of, made_at, object_of, AreSpelled, AreLegal, Meaning, exactly, Making, Values, Has}
+use Rattle.mv_json.specs.Meanings.{part_of, made_at, object_of, AreSpelled, AreLegal, Meaning, as_written, exactly, Making, Values}
 use Rattle.mv_json.specs.Members.{first_unknown, HasOnly}
-use Rattle.mv_json.specs.Reading.{whole_number, ◌and_then◌, text_at, member_at}
+use Rattle.mv_json.specs.Reading.{whole_number, ◌and_then◌, field_at, member_at}
 use Rattle.mv_json.specs.Values.{whole, since_two}
 use Rattle.mv_message.specs.declared.found.Found.{Found}
 use Rattle.mv_message.specs.declared.found.Found.TheVariants.{Absent, Present}
 use Rattle.mv_pack.specs.Keys.{pack_key, batch_key}
-use Rattle.std.specs.Prelude.{⊤, ◌==◌, if◌then◌else◌, Option, Some, None, Result, Ok, Err, ℕ, List, [], ◌∷◌, codes, bytes_eq, find, ◌≡◌, false, is_some, ◌<◌, ◌^◌}
+use Rattle.std.specs.Prelude.{⊤, ◌==◌, if◌then◌else◌, Option, Some, None, Result, Ok, Err, ℕ, List, [], ◌∷◌, codes, bytes_eq, find, ◌≡◌, false, is_some, ◌<◌, ◌^◌, IfSome, MatchOption}
 use Rattle.mv_json.specs.declared.field.Field.TheVariants as fields
 use Rattle.mv_json.specs.declared.form.Form.TheVariants as forms
 use Rattle.mv_message.specs.declared.message.Message.TheVariants as messages
 
--- the version, by what stands in `v`: 1 where nothing does; 2 where the whole number 2 does; else M5
-abbrev pub version_of : Option Data → Result Version MessageFault
-version_of None = Ok One
-version_of (Some found) =
-    ok_or (whole_number found) (Kind fields.V) and_then λ number. if number == 2 then Ok Two else Err (Kind fields.V)
-
--- the version of an object: M5 of `v`
+-- the version of an object, by what stands in `v`: 1 where nothing does; 2 where the whole number 2 does; else M5
 unfoldable pub version_at : Data → Result Version MessageFault
-version_at value = version_of (get (field_name fields.V) value)
+version_at value = option_map_or
+    (λ found. ok_or (whole_number found) (Kind fields.V) and_then λ number. if number == 2 then Ok Two else Err (Kind fields.V))
+    (get (field_name fields.V) value) (Ok One)
 
 -- ---- the forms of messages, by the version and the text of their field `msg`
 
@@ -64,7 +60,7 @@ form_named version text = find (λ form. bytes_eq text (form_name form)) (forms_
 
 -- the form of an object: M3, M5
 unfoldable pub form_at : Version → Data → Result Form MessageFault
-form_at version value = text_at fields.Msg value and_then λ text. ok_or (form_named version text) (Kind fields.Msg)
+form_at version value = field_at as_str fields.Msg value and_then λ text. ok_or (form_named version text) (Kind fields.Msg)
 
 -- the fields of a pack that was found, in byte order of their names
 abbrev pub present_fields : List Field
@@ -88,57 +84,43 @@ abbrev pub found_of : Version → Data → Result Found MessageFault
 found_of version value =
     if is_some (as_null value) then Ok Absent else ok_or (result_ok (present_of version value)) (Kind fields.Found)
 
--- what the field `found` says: M3, M5
-unfoldable pub found_at : Version → Data → Result Found MessageFault
-found_at version value = member_at fields.Found value and_then found_of version
-
 -- the first version that says all of what was found: the second where there is a national number, or the product is withdrawn
 abbrev pub found_version : Found → Version
 found_version Absent = One
 found_version (Present batch expiry None standing recalled false) = One
 found_version found = Two
 
+-- what the fields of a pack say that was found, where one was
+abbrev pub found_parts : (version : Version) → Found → Option (Values (part_of version) present_fields)
+found_parts version Absent = None
+found_parts version (Present batch expiry national standing recalled withdrawn) =
+    Some (batch, (expiry, (national, (recalled, (standing, (withdrawn, tt))))))
+
 -- the value of what was found
 abbrev pub found_value : Version → Found → Data
-found_value version Absent = null
-found_value version (Present batch expiry national standing recalled withdrawn) =
-    object_of (part_of version) present_fields (batch, (expiry, (national, (recalled, (standing, (withdrawn, tt))))))
+found_value version found = option_map_or (object_of (part_of version) present_fields) (found_parts version found) null
 
 -- a part is `null` where nothing was found, else an object with exactly the fields of the pack
 abbrev pub SpellsFound : Version → Data → Found → Type 0
-SpellsFound version part Absent = part ≡ null
-SpellsFound version part (Present batch expiry national standing recalled withdrawn) =
-    HasOnly (names_in version present_fields) part
-    × AreSpelled (part_of version) present_fields (batch, (expiry, (national, (recalled, (standing, (withdrawn, tt)))))) part
-
--- what was found is legal where nothing was, or what the fields of the pack say
-abbrev pub IsLegalFound : Version → Found → Type 0
-IsLegalFound version Absent = ⊤
-IsLegalFound version (Present batch expiry national standing recalled withdrawn) =
-    AreLegal (part_of version) present_fields (batch, (expiry, (national, (recalled, (standing, (withdrawn, tt))))))
+SpellsFound version part found = MatchOption (found_parts version found) (part ≡ null)
+    (λ values. HasOnly (names_in version present_fields) part × AreSpelled (part_of version) present_fields values part)
 
 -- what was found of a pack
 abbrev pub pack_found : Version → Meaning
 pack_found version = record {
   Value = Found;
-  read = found_at version;
+  read = λ value. member_at fields.Found value and_then found_of version;
   written = λ found. Some (found_value version found);
-  Spells = λ value found. (part : Data) × Has value fields.Found part × SpellsFound version part found;
-  IsLegal = IsLegalFound version;
+  Spells = λ value found. (part : Data) × (get (field_name fields.Found) value ≡ Some part) × SpellsFound version part found;
+  IsLegal = λ found. IfSome (found_parts version found) (AreLegal (part_of version) present_fields);
 }
 
 -- What each field of a message means, whose version and form were read before the other fields: their own two say nothing more.
 abbrev pub meaning_of : Version → Form → Field → Meaning
 meaning_of version form fields.Found = pack_found version
-meaning_of version form fields.Msg =
-    exactly {A = ⊤} (λ field value. Ok tt) (λ said. string (form_name form)) (λ said. IsIn form version) fields.Msg
-meaning_of version form fields.V = record {
-  Value = ⊤;
-  read = λ value. Ok tt;
-  written = λ said. since_two version None (Some (whole 2));
-  Spells = λ value said. get (field_name fields.V) value ≡ since_two version None (Some (whole 2));
-  IsLegal = λ said. ⊤;
-}
+meaning_of version form fields.Msg = exactly {A = ⊤} (λ field value. Ok tt) (λ said. string (form_name form)) (λ said. ⊤) fields.Msg
+meaning_of version form fields.V =
+    as_written {A = ⊤} (λ field value. Ok tt) (λ said. since_two version None (Some (whole 2))) (λ said. ⊤) fields.V
 meaning_of version form field = part_of version field
 
 -- the fields of the messages of a form, in byte order of their names
@@ -185,8 +167,7 @@ names_of version form = names_in version (fields_of form)
 
 -- the message of a form that the fields of an object give
 unfoldable pub message_at : Version → Form → Data → Result Message MessageFault
-message_at version form value =
-    made_at (meaning_of version form) (fields_of form) (making_of version form) value
+message_at version form value = made_at (meaning_of version form) (fields_of form) (making_of version form) value
 
 -- ---- what the fields of each message say
 
@@ -220,8 +201,8 @@ HasWords message = ⊤
 
 -- ---- which JSON values are which messages, as a relation
 
--- the value is an object with exactly the fields of the message in one of the versions, each a spelling of what the message's says
+-- the value is an object with exactly the fields of the message in a version that has its form, each a spelling of what the message's says
 abbrev pub Reads : Data → Message → Type 0
 Reads value message =
-    (version : Version) × (HasOnly (names_of version (form_of message)) value
+    (version : Version) × (IsIn (form_of message) version × HasOnly (names_of version (form_of message)) value
     × AreSpelled (meaning_of version (form_of message)) (fields_of (form_of message)) (contents_of version message) value)

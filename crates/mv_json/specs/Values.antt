@@ -11,7 +11,7 @@ abbrev pub whole : ℕ → Data
 whole n = number (unsigned n)
 
 -- what stood before the second version, and what stands from it on
-abbrev pub since_two : {A : Type 0} → Version → A → A → A
+abbrev pub since_two {ℓ} : {A : Type ℓ} → Version → A → A → A
 since_two One before now = before
 since_two Two before now = now
 

@@ -1,8 +1,8 @@
 //! The versions of the JSON form, told apart by the field `v`; the forms of messages, and the fields of each.
 
-ghost use Rattle.std.specs.Prelude.{◌≡◌};
+ghost use Rattle.std.specs.Prelude.{◌≡◌, filter};
 ghost use Rattle.mv_json.specs.Shapes.{form_named, form_at, fields_of, version_at};
-ghost use Rattle.mv_json.specs.Fields.{fields_in};
+ghost use Rattle.mv_json.specs.Fields.{is_in};
 ghost use Rattle.mv_json.specs.Parts.{Gives};
 
 use crate::object::Object;
@@ -33,7 +33,7 @@ pub(crate) enum Form {
 impl Form {
     /// The fields of such a message, in byte order of their names. Version 1 never has the last of them.
     pub(crate) fn fields(self, version: Version) -> &'static [Field]
-        ensures { result.now ≡ fields_in version (fields_of self) }
+        ensures { result.now ≡ filter (λ field. is_in field version) (fields_of self) }
     {
         use Field::*;
         match self {

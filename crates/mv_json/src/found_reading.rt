@@ -1,9 +1,9 @@
 //! Reads the field `found` of an answer: `null`, or an object of its own.
 
-ghost use Rattle.std.specs.Prelude.{◌≡◌, ◌≢◌, IfErr, IfSome};
+ghost use Rattle.std.specs.Prelude.{◌≡◌, ◌≢◌, IfErr, IfSome, filter};
 ghost use Rattle.mv_json.specs.Words.{Data, view};
-ghost use Rattle.mv_json.specs.Fields.{fields_in};
-ghost use Rattle.mv_json.specs.Shapes.{present_fields, present_at, present_of, found_of, found_at};
+ghost use Rattle.mv_json.specs.Fields.{is_in};
+ghost use Rattle.mv_json.specs.Shapes.{present_fields, present_at, present_of, found_of, pack_found};
 ghost use Rattle.mv_json.specs.Meanings.{part_of};
 ghost use Rattle.mv_json.specs.Reading.{GivesOr};
 ghost use Rattle.mv_json.specs.Parts.{Gives, MayGive, IsPart, IsValue, Stands};
@@ -18,9 +18,8 @@ use mv_message::Found;
 use serde_json::Value;
 
 /// What the field `found` says: M3, M5; M9 where fields were met that say it in another version.
-#[tactic(auto, unfolding(crate::specs::Shapes::found_at))]
 pub(crate) fn found_at(object: &Object<'_>, version: Version) -> Result<Found, MessageFault>
-    ensures gives { MayGive (found_at version) object.now result }
+    ensures gives { MayGive (pack_found version).read object.now result }
     // Of a value it takes no memory.
     ensures no_memory { IsValue object.now → IfErr result (λ fault. fault ≢ MessageFault.Memory) }
 {
@@ -90,7 +89,7 @@ fn present_of(value: &Value, version: Version) -> Result<Found, MessageFault>
 
 /// The fields of a pack that was found, in byte order of their names.
 pub(crate) fn present_fields(version: Version) -> &'static [Field]
-    ensures { result.now ≡ fields_in version present_fields }
+    ensures { result.now ≡ filter (λ field. is_in field version) present_fields }
 {
     use Field::*;
     match version {

@@ -21,7 +21,7 @@ pub const MOST_MARKETS: usize = 32;
 pub const MOST_SERIALS: usize = 100;
 
 /// The members of a field that is a list of 1 to `most` texts: M3, M5, M7.
-#[tactic(auto, using(crate::proofs::ReadingLemmas::all_are_texts, crate::proofs::ReadingLemmas::length_of_view), unfolding(crate::specs::Reading::texts_at))]
+#[tactic(auto, using(crate::proofs::ReadingLemmas::all_are_texts, crate::proofs::ReadingLemmas::length_of_view), unfolding(crate::specs::Reading::texts_at, crate::specs::Reading::field_at))]
 fn texts_at(value: &Value, field: Field, most: usize) -> Result<&[Value], MessageFault>
     ensures gives { MatchResult result
         (λ list. texts_at most field (view value.now) ≡ Ok (items_view list.now))

@@ -12,8 +12,8 @@ use crate::found_reading::found_at;
 use crate::lists::{markets_at, serials_at};
 use crate::object::Object;
 use crate::reading::{
-    batch_at, count_at, expiry_at, free_text_at, gtin_at, moment_at, national_at, number_at,
-    serial_at, standing_at,
+    batch_at, expiry_at, free_text_at, gtin_at, moment_at, national_at, number_at, serial_at,
+    standing_at,
 };
 use crate::{Field, MessageFault};
 use mv_message::{Boxed, Message, Product};
@@ -164,10 +164,10 @@ fn answer_at(object: &Object<'_>, version: Version) -> Result<Message, MessageFa
     // Of a value it takes no memory.
     ensures no_memory { IsValue object.now → IfErr result (λ fault. fault ≢ MessageFault.Memory) }
 {
-    let asker = number_at(object, Field::Asker)?;
+    let asker = number_at(object, Field::Asker, 0)?;
     let found = found_at(object, version)?;
     let gtin = gtin_at(object, Field::Gtin)?;
-    let q = count_at(object, Field::Q)?;
+    let q = number_at(object, Field::Q, 1)?;
     let serial = serial_at(object, Field::Serial)?;
     Ok(Message::Answer {
         asker,

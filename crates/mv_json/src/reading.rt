@@ -1,10 +1,10 @@
 //! Reads the fields of a JSON object, one at a time, each with its own faults in their order.
-#![tactic(auto, unfolding(crate::specs::Reading::read_at, crate::specs::Reading::national_at, crate::specs::Reading::standing_at, crate::specs::Reading::free_text_at, crate::specs::Reading::truth_at, crate::specs::Reading::whole_at, crate::specs::Reading::moment_at, crate::specs::Reading::number_at, crate::specs::Reading::count_at))]
+#![tactic(auto, unfolding(crate::specs::Reading::field_at, crate::specs::Reading::read_at, crate::specs::Reading::national_at, crate::specs::Reading::standing_at, crate::specs::Reading::free_text_at))]
 
 ghost use Rattle.std.specs.Prelude.{◌≡◌, ◌≢◌, IfErr, IsOk, MatchResult, Ok, Err};
-ghost use Rattle.mv_json.specs.Words.{Data, read_code, read_expiry, read_gtin, standing_named};
+ghost use Rattle.mv_json.specs.Words.{Data, as_bool, as_str, read_code, read_expiry, read_gtin, read_moment, standing_named};
 ghost use Rattle.mv_json.specs.Meanings.{part_of};
-ghost use Rattle.mv_json.specs.Reading.{member_at, text_at, read_at, standing_at, free_text_at, national_of, truth_at, whole_at, moment_at, number_at, count_at};
+ghost use Rattle.mv_json.specs.Reading.{member_at, field_at, read_at, standing_at, free_text_at, whole_number, whole_from};
 ghost use Rattle.mv_json.specs.Parts.{Gives, MayGive, IsPlace, Stands, there};
 
 use crate::form::Version;
@@ -32,8 +32,8 @@ pub(crate) fn member_at<'b>(object: &'b Object<'_>, field: Field) -> Result<Plac
 /// The text of a field: M3, M5.
 pub(crate) fn text_at<'b>(object: &'b Object<'_>, field: Field) -> Result<&'b str, MessageFault>
     ensures gives { (value : Data) → Stands value object.now → MatchResult result
-        (λ text. text_at field value ≡ Ok text.now)
-        (λ fault. text_at field value ≡ Err fault) }
+        (λ text. field_at as_str field value ≡ Ok text.now)
+        (λ fault. field_at as_str field value ≡ Err fault) }
     // It takes no memory.
     ensures no_memory { IfErr result (λ fault. fault ≢ MessageFault.Memory) }
 {
@@ -44,28 +44,28 @@ pub(crate) fn text_at<'b>(object: &'b Object<'_>, field: Field) -> Result<&'b st
 
 /// The product code of a field: M3, M5, M6.
 pub(crate) fn gtin_at(object: &Object<'_>, field: Field) -> Result<Gtin, MessageFault>
-    ensures { Gives (read_at read_gtin field) object.now result }
+    ensures { Gives (read_at as_str read_gtin field) object.now result }
 {
     Gtin::read(text_at(object, field)?).map_err(|fault| MessageFault::Pack(field, fault))
 }
 
 /// The serial number of a field: M3, M5, M6.
 pub(crate) fn serial_at(object: &Object<'_>, field: Field) -> Result<Serial, MessageFault>
-    ensures { Gives (read_at read_code field) object.now result }
+    ensures { Gives (read_at as_str read_code field) object.now result }
 {
     Serial::read(text_at(object, field)?).map_err(|fault| MessageFault::Pack(field, fault))
 }
 
 /// The batch number of a field: M3, M5, M6.
 pub(crate) fn batch_at(object: &Object<'_>, field: Field) -> Result<Batch, MessageFault>
-    ensures { Gives (read_at read_code field) object.now result }
+    ensures { Gives (read_at as_str read_code field) object.now result }
 {
     Batch::read(text_at(object, field)?).map_err(|fault| MessageFault::Pack(field, fault))
 }
 
 /// The expiry date of a field: M3, M5, M6.
 pub(crate) fn expiry_at(object: &Object<'_>, field: Field) -> Result<Expiry, MessageFault>
-    ensures { Gives (read_at read_expiry field) object.now result }
+    ensures { Gives (read_at as_str read_expiry field) object.now result }
 {
     Expiry::read(text_at(object, field)?).map_err(|fault| MessageFault::Pack(field, fault))
 }
@@ -77,18 +77,11 @@ pub(crate) fn national_at(
 ) -> Result<Option<National>, MessageFault>
     ensures { Gives (part_of version Field.National).read object.now result }
 {
-    match version {
-        Version::One => Ok(None),
-        Version::Two => national_of(member_at(object, Field::National)?, Field::National),
+    if version == Version::One {
+        return Ok(None);
     }
-}
-
-/// The national number that a value is, or none where it is `null`: M5, M6.
-fn national_of(found: Place<'_>, field: Field) -> Result<Option<National>, MessageFault>
-    ensures gives { (value : Data) → IsPlace value found.entry → result ≡ national_of field value }
-    // It takes no memory.
-    ensures no_memory { IfErr result (λ fault. fault ≢ MessageFault.Memory) }
-{
+    let field = Field::National;
+    let found = member_at(object, field)?;
     if found.is_null() {
         return Ok(None);
     }
@@ -141,7 +134,7 @@ pub(crate) fn free_text_at(
 
 /// Whether a field says `true`: M3, M5.
 pub(crate) fn truth_at(object: &Object<'_>, field: Field) -> Result<bool, MessageFault>
-    ensures { Gives (truth_at field) object.now result }
+    ensures { Gives (field_at as_bool field) object.now result }
 {
     member_at(object, field)?
         .as_bool()
@@ -150,7 +143,7 @@ pub(crate) fn truth_at(object: &Object<'_>, field: Field) -> Result<bool, Messag
 
 /// The whole number of a field: M3, M5.
 fn whole_at(object: &Object<'_>, field: Field) -> Result<u64, MessageFault>
-    ensures { Gives (whole_at field) object.now result }
+    ensures { Gives (field_at whole_number field) object.now result }
 {
     member_at(object, field)?
         .as_u64()
@@ -159,25 +152,20 @@ fn whole_at(object: &Object<'_>, field: Field) -> Result<u64, MessageFault>
 
 /// The moment of a field: M3, M5, M6.
 pub(crate) fn moment_at(object: &Object<'_>, field: Field) -> Result<Moment, MessageFault>
-    ensures { Gives (moment_at field) object.now result }
+    ensures { Gives (read_at whole_number read_moment field) object.now result }
 {
     Moment::of(whole_at(object, field)?).map_err(|fault| MessageFault::Pack(field, fault))
 }
 
-/// The whole number of a field, up to 4,294,967,295: M3, M5.
-pub(crate) fn number_at(object: &Object<'_>, field: Field) -> Result<u32, MessageFault>
-    ensures { Gives (number_at field) object.now result }
+/// The whole number of a field, from `least` to 4,294,967,295: M3, M5.
+pub(crate) fn number_at(object: &Object<'_>, field: Field, least: u32) -> Result<u32, MessageFault>
+    ensures { Gives (field_at (whole_from least) field) object.now result }
 {
-    u32::try_from(whole_at(object, field)?).map_err(|_| MessageFault::Kind(field))
-}
-
-/// The whole number of a field, from 1 to 4,294,967,295: M3, M5.
-pub(crate) fn count_at(object: &Object<'_>, field: Field) -> Result<u32, MessageFault>
-    ensures { Gives (count_at field) object.now result }
-{
-    let number = number_at(object, field)?;
-    if number == 0 {
-        return Err(MessageFault::Kind(field));
+    let number = member_at(object, field)?
+        .as_u64()
+        .ok_or(MessageFault::Kind(field))?;
+    match u32::try_from(number) {
+        Ok(number) if least <= number => Ok(number),
+        _ => Err(MessageFault::Kind(field)),
     }
-    Ok(number)
 }

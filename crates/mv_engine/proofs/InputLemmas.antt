@@ -1,7 +1,7 @@
 -- Lemmas on an input that comes in parts.
-use Rattle.std.proofs.Common.{◌≡◌, ℕ, ◌+◌, ◌<◌, ◌≤◌, List, [], ◌∷◌, ◌++◌, length, refl, sym, ◌∙◌, ap, subst, arith, append_assoc, append-nil, length-append, rules, inr, Option}
-use Rattle.mv_engine.proofs.Words.{common_steps, nat_tests, strip_last, ServeFault, Line, line_at, line_begun, whole_from, rest_from, lines_from, line_limit, lines_limit, IsUnended, KeepLimits, GotNoReply, AreAnswered, StopsAt, StopsIn, StoppedAt, LeftBy, Taken}
-use Rattle.mv_engine.proofs.PartLemmas.{unended_whole, unended_rest, unended_front}
+use Rattle.std.proofs.Common.{◌≡◌, ℕ, ◌+◌, ◌<◌, ◌≤◌, List, [], ◌∷◌, ◌++◌, ◌≢◌, length, refl, sym, ◌∙◌, ap, subst, arith, append_assoc, append-nil, length-append, rules, inl, inr, Option}
+use Rattle.mv_engine.proofs.Words.{common_steps, nat_tests, strip_last, ServeFault, Line, line_at, line_begun, whole_from, rest_from, lines_from, line_limit, lines_limit, IsUnended, KeepLimits, GotNoReply, AreAnswered, StopsAt, StopsIn, StoppedAt, Memory, TooManyLines, Taken}
+use Rattle.mv_engine.proofs.PartLemmas.{unended_nil, unended_whole, unended_rest, unended_front}
 use Rattle.mv_engine.proofs.RepliesLemmas.{IsReplies-append, IsReplies-nil}
 
 -- the whole pieces of two parts
@@ -17,7 +17,7 @@ rest_from-append begun (x ∷ xs) ys = grind (arith, rest_from-append [] xs ys, 
 -- the lines of two lists of pieces
 pub lines_from-append : (count : ℕ) (ps qs : List (List ℕ)) → lines_from count (ps ++ qs) ≡ lines_from count ps ++ lines_from (count + length ps) qs
 lines_from-append count [] qs = ap (λ n. lines_from n qs) (omega arith)
-lines_from-append count (piece ∷ ps) qs = grind (arith, lines_from-append (count + 1) ps qs)
+lines_from-append count (piece ∷ ps) qs = grind (arith, append_assoc, lines_from-append (count + 1) ps qs)
 
 -- no piece keeps the limits, wherever a run has come
 pub KeepLimits-nil : (count : ℕ) → count ≤ lines_limit → KeepLimits count []
@@ -52,10 +52,6 @@ module _ {S : Type 0} (Reply : S → Line → Option (List ℕ) → S → Type 0
   answered_more {a = a} {b = b} {c = c} {count = count} {ps = ps} {qs = qs} {out = out} {other = other} first next =
       grind (arith, nat_tests, common_steps, IsReplies-append Reply a b c _ _ out other first.replied next.replied, lines_from-append count ps qs)
 
-  -- what answers may be as it was, whatever the fault
-  left_alone : (fault : ServeFault) (a : S) (next : Line) → LeftBy fault Reply a next a
-  left_alone fault a next = grind (arith, nat_tests)
-
   -- there was a reply to a line, and it was dropped
   pub reply_dropped : (count : ℕ) (piece line : List ℕ) (text : Option (List ℕ)) (a b : S) → line ≡ strip_last 13 piece
       → Reply a (line_at (count + 1) line) text b → GotNoReply Reply a (line_begun count piece []) b
@@ -78,20 +74,44 @@ module _ {S : Type 0} (Reply : S → Line → Option (List ℕ) → S → Type 0
   pub stopped_later : {begun front begun' out other back all : List ℕ} {count count' : ℕ} {a b c : S} (fault : ServeFault) (tail : List ℕ)
       → all ≡ front ++ (back ++ tail) → Taken Reply begun count a front begun' count' b out → StoppedAt Reply fault begun' count' b back c other
       → StoppedAt Reply fault begun count a all c (out ++ other)
-  stopped_later {begun = begun} {front = front} {begun' = begun'} {count = count} {count' = count'} fault tail cut first stopped =
-      grind (
-        arith,
-        answered_more first.answered (rw first.counted at stopped.answered),
-        append_assoc,
-        begun_later begun front begun' stopped.good count count' first.rest first.counted,
-        stops_later,
-        whole_from-append begun front stopped.good,
-      )
+  stopped_later {begun = begun} {front = front} {begun' = begun'} {count = count} {count' = count'} {c = c} fault tail cut first stopped = record {
+    good = front ++ stopped.good;
+    bad = stopped.bad ++ tail;
+    cut = cut ∙ ap (λ l. front ++ (l ++ tail)) stopped.cut ∙ simp append_assoc;
+    why = stops_later fault begun count front stopped.good stopped.bad tail (rw (first.rest, first.counted) at stopped.why);
+    behind = stopped.behind;
+    answered = rw (whole_from-append begun front stopped.good) (answered_more first.answered (rw (first.rest, first.counted) at stopped.answered));
+    left = subst (λ l. GotNoReply Reply stopped.behind l c) (begun_later begun front begun' stopped.good count count' first.rest first.counted) stopped.left;
+    left_alone = stopped.left_alone;
+  }
 
   -- the taking stops behind bytes that end no line
   pub part_stopped : (fault : ServeFault) (begun good bad : List ℕ) (count : ℕ) (a b : S) → IsUnended good → count ≤ lines_limit
-      → StopsAt fault begun count good bad → LeftBy fault Reply a (line_begun count (begun ++ good) []) b → StoppedAt Reply fault begun count a (good ++ bad) b []
-  part_stopped fault begun good bad count a b unended few why left = grind (arith, answered_none count a few, unended_rest, unended_whole begun good unended)
+      → StopsAt fault begun count good bad → GotNoReply Reply a (line_begun count (begun ++ good) []) b → (fault ≢ Memory → b ≡ a)
+      → StoppedAt Reply fault begun count a (good ++ bad) b []
+  part_stopped fault begun good bad count a b unended few why left alone = record {
+    good = good;
+    bad = bad;
+    cut = refl;
+    why = why;
+    behind = a;
+    answered = rw (unended_whole begun good unended) (answered_none count a few);
+    left = rw (unended_whole begun good unended, unended_rest begun good unended) left;
+    left_alone = alone;
+  }
+
+  -- a line got no reply
+  pub part_unanswered : (begun good bad : List ℕ) (count : ℕ) (a b : S) → IsUnended good → count ≤ lines_limit
+      → GotNoReply Reply a (line_begun count (begun ++ good) []) b → StoppedAt Reply Memory begun count a (good ++ bad) b []
+  part_unanswered begun good bad count a b unended few left =
+      part_stopped Memory begun good bad count a b unended few tt left (λ other. absurd (other refl))
+
+  -- no line may follow
+  pub none_may_follow : (begun part : List ℕ) (count : ℕ) (a : S) → (0 < length part → count < lines_limit) → count ≡ lines_limit
+      → StoppedAt Reply TooManyLines begun count a (part ++ 10 ∷ []) a []
+  none_may_follow begun [] count a behind full =
+      part_stopped TooManyLines begun [] (10 ∷ []) count a a unended_nil (omega (arith, full)) (omega (arith, full), omega arith) (inl refl) (λ other. refl)
+  none_may_follow begun (x ∷ part) count a behind full = absurd (omega (arith, behind (omega arith), full))
 
   -- the taking of bytes that end no line stops among them
   pub stopped_in : (fault : ServeFault) (begun part tail : List ℕ) (count : ℕ) (a : S) → IsUnended part → count ≤ lines_limit → StopsIn fault begun count part
@@ -99,7 +119,7 @@ module _ {S : Type 0} (Reply : S → Line → Option (List ℕ) → S → Type 0
   stopped_in fault begun part tail count a unended few (good, bad, cut, why) =
       let later : StopsAt fault begun count good (bad ++ tail) = stops_later fault begun count [] good bad tail (subst (λ n. StopsAt fault begun n good bad) (omega arith) why) in
       subst (λ l. StoppedAt Reply fault begun count a l a []) (sym (append_assoc good bad tail) ∙ ap (λ l. l ++ tail) (sym cut))
-      (part_stopped fault begun good (bad ++ tail) count a a (unended_front good bad (rw cut at unended)) few later (left_alone fault a _))
+      (part_stopped fault begun good (bad ++ tail) count a a (unended_front good bad (rw cut at unended)) few later (inl refl) (λ other. refl))
 
   -- a line is taken of which `part` was left; `kept` are the replies before
   pub line_taken : (kept kept' begun part begun' : List ℕ) (count count' : ℕ) (a b : S) → IsUnended part → begun' ≡ [] → count' ≡ count + 1

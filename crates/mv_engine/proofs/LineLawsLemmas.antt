@@ -1,6 +1,6 @@
 -- The laws of the pieces of an input, and of its lines.
 use Rattle.std.proofs.Common.{◌≡◌, ◌+◌, ℕ, suc, map, List, [], ◌∷◌, ◌++◌, refl, sym, arith, append_assoc, append-nil, inl, inr, All}
-use Rattle.mv_engine.proofs.Words.{cases_eq, eq-eqb, ne_eqb, nat_tests, common_steps, map-append, strip_last, Line, line_unless_empty, whole_from, rest_from, last_piece, pieces, lines_from, lines_of, IsUnended, text_lines}
+use Rattle.mv_engine.proofs.Words.{cases_eq, eq-eqb, ne_eqb, nat_tests, common_steps, map-append, strip_last, Line, line_at, whole_from, rest_from, unless_empty, pieces, lines_from, lines_of, IsUnended, text_lines}
 use Rattle.std.proofs.lemmas.List.Elements.{All-nil, All-cons, All-append}
 use Rattle.mv_engine.proofs.InputLemmas.{whole_from-append, rest_from-append, lines_from-append}
 use Rattle.mv_engine.proofs.PartLemmas.{unended_nil, unended_whole, unended_rest}
@@ -44,7 +44,7 @@ first_piece piece more unended = grind (arith, rest_from-append, unended_rest, u
 
 -- texts without line feeds, written with one behind each, and a last one with none behind it
 pub pieces_read_back : (texts : List (List ℕ)) (last : List ℕ) → All IsUnended texts → IsUnended last
-    → pieces (text_lines texts ++ last) ≡ texts ++ last_piece last
+    → pieces (text_lines texts ++ last) ≡ texts ++ unless_empty last
 pieces_read_back [] last all unended = rw (unended_whole [] last unended, unended_rest [] last unended)
 pieces_read_back (text ∷ texts) last all unended =
     grind (
@@ -65,7 +65,8 @@ pieces_compose front back = grind (arith, nat_tests, append_assoc, between)
 
 -- the bytes of a line are the same, whatever its number
 line_bytes : (a b : ℕ) (bytes : List ℕ) (xs ys : List Line) → map (λ line. line.bytes) xs ≡ map (λ line. line.bytes) ys
-    → map (λ line. line.bytes) (line_unless_empty a bytes ++ xs) ≡ map (λ line. line.bytes) (line_unless_empty b bytes ++ ys)
+    → map (λ line. line.bytes) (map (line_at a) (unless_empty bytes) ++ xs)
+    ≡ map (λ line. line.bytes) (map (line_at b) (unless_empty bytes) ++ ys)
 line_bytes a b = grind (arith, nat_tests)
 
 -- so are those of lines, whatever came before them
@@ -78,8 +79,8 @@ lines_of-append : (ps qs : List (List ℕ)) → lines_of (ps ++ qs) ≡ lines_of
 lines_of-append ps qs = grind (arith, nat_tests, lines_bytes, lines_from-append, map-append)
 
 -- an empty piece is no line
-first_line : (piece : List ℕ) (ps : List (List ℕ)) → lines_of (piece ∷ ps) ≡ lines_of (last_piece piece) ++ lines_of ps
-first_line piece ps = grind (arith, lines_bytes)
+first_line : (piece : List ℕ) (ps : List (List ℕ)) → lines_of (piece ∷ ps) ≡ lines_of (unless_empty piece) ++ lines_of ps
+first_line piece ps = grind (arith, append_assoc, lines_bytes, map-append)
 
 -- the lines of two parts with a line feed between them
 pub lines_compose : (front back : List ℕ) → lines_of (pieces (front ++ 10 ∷ back)) ≡ lines_of (pieces front) ++ lines_of (pieces back)

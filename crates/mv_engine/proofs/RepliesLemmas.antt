@@ -1,15 +1,10 @@
 -- Lemmas on replies to lines that come in parts.
-use Rattle.std.proofs.Common.{◌≡◌, ℕ, ◌+◌, List, [], ◌∷◌, ◌++◌, ◌≢◌, refl, length, take, take_at, sym, ap, subst, append-nil, append_assoc, arith, Bool, true, false, Option, Some, None}
-use Rattle.mv_engine.proofs.Words.{nat_tests, flat_map-append, strip_last, Line, KeepLimits, line_at, line_unless_empty, AreReplies, IsReplies, said, said_texts, AreAnswered}
-
--- the texts that there are in two lists
-said_texts-append : (xs ys : List (Option (List ℕ))) → said_texts (xs ++ ys) ≡ said_texts xs ++ said_texts ys
-said_texts-append [] ys = refl
-said_texts-append (None ∷ xs) ys = said_texts-append xs ys
-said_texts-append (Some text ∷ xs) ys = ap (λ ts. text ∷ ts) (said_texts-append xs ys)
+use Rattle.std.proofs.Common.{◌≡◌, ℕ, ◌+◌, List, [], ◌∷◌, ◌++◌, ◌≢◌, refl, length, map, take, take_at, sym, subst, append-nil, append_assoc, arith, Bool, true, false, Option, Some, None}
+use Rattle.std.proofs.lemmas.List.Elements.{filter_map-append}
+use Rattle.mv_engine.proofs.Words.{nat_tests, flat_map-append, strip_last, Line, KeepLimits, line_at, unless_empty, AreReplies, IsReplies, said, AreAnswered}
 
 -- a line that isn't empty is the one of its piece
-one_line : (number : ℕ) (line : List ℕ) → line ≢ [] → line_unless_empty number line ++ [] ≡ line_at number line ∷ []
+one_line : (number : ℕ) (line : List ℕ) → line ≢ [] → map (line_at number) (unless_empty line) ++ [] ≡ line_at number line ∷ []
 one_line number = grind (arith, nat_tests)
 
 module _ {S : Type 0} (Reply : S → Line → Option (List ℕ) → S → Type 0) where
@@ -24,7 +19,7 @@ module _ {S : Type 0} (Reply : S → Line → Option (List ℕ) → S → Type 0
   -- the bytes of the replies follow one another
   pub IsReplies-append : (a b c : S) (lines more : List Line) (out other : List ℕ) → IsReplies Reply a lines out b
       → IsReplies Reply b more other c → IsReplies Reply a (lines ++ more) (out ++ other) c
-  IsReplies-append a b c lines more out other first next = grind (arith, AreReplies-append, flat_map-append, said_texts-append)
+  IsReplies-append a b c lines more out other first next = grind (arith, AreReplies-append, flat_map-append, filter_map-append (λ (text : Option (List ℕ)). text))
 
   -- no line has no reply
   pub IsReplies-nil : (a : S) → IsReplies Reply a [] [] a
@@ -48,7 +43,7 @@ module _ {S : Type 0} (Reply : S → Line → Option (List ℕ) → S → Type 0
       → line ≢ [] → (text : List ℕ) × (written ≡ kept ++ text) × Reply a (line_at (count + 1) line) (said spoken text) b
       → items ≡ written ++ 10 ∷ []
       → (out : List ℕ) × (items ≡ kept ++ out) × AreAnswered Reply count a (piece ∷ []) b out
-  reply_added count spoken kept written items piece line a b limits says stripped some (text, grown, reply) ended = grind (arith, IsReplies-one, append_assoc)
+  reply_added count spoken kept written items piece line a b limits says stripped some (text, grown, reply) ended = grind (arith, IsReplies-one, append_assoc, one_line)
 
   -- or none
   pub none_said : (count n : ℕ) (spoken : Bool) (kept written items piece line : List ℕ) (a b : S) → KeepLimits count (piece ∷ []) → spoken ≡ false → line ≡ strip_last 13 piece

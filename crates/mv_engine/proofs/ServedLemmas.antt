@@ -1,6 +1,6 @@
 -- Lemmas on what a run over lines has written.
 use Rattle.std.proofs.Common.{◌≡◌, ℕ, ◌<◌, ◌≤◌, List, [], ◌++◌, length, sym, ◌∙◌, ap, arith, append_assoc, append-nil, length-append, take, subst, Option, Result, OnOk, IfErr}
-use Rattle.mv_engine.proofs.Words.{common_steps, nat_tests, Appends, Consumes, Appends-trans, Consumes-trans, ServeFault, Read, Write, Start, whole_from, pieces, last_piece, Line, line_at, line_limit, lines_limit, WrotePart, GotNoReply, AreAnswered, StoppedAt, WroteAt, Served, EndedAt, Taken, Halted}
+use Rattle.mv_engine.proofs.Words.{common_steps, nat_tests, Appends, Consumes, Appends-trans, Consumes-trans, ServeFault, Read, Write, Start, whole_from, rest_from, pieces, unless_empty, Line, line_at, line_limit, lines_limit, WrotePart, GotNoReply, AreAnswered, StoppedAt, WroteAt, Served, EndedAt, Taken, Halted}
 use Rattle.mv_engine.proofs.InputLemmas.{whole_from-append, answered_more, stopped_later}
 
 -- nothing more was read
@@ -26,15 +26,14 @@ module _ {S : Type 0} (Reply : S → Line → Option (List ℕ) → S → Type 0
   wrote_later : (before between after : S) (front begun' out : List ℕ) (count' : ℕ) (ps more all : List (List ℕ)) (a b c : Option (List ℕ)) → Appends a b out
       → Taken Reply [] 0 before front begun' count' between out → all ≡ (whole_from [] front ++ ps) ++ more → WroteAt Reply count' between ps after b c
       → WroteAt Reply 0 before all after a c
-  wrote_later before between after front begun' out count' ps more all a b c written taken are broken = record {
+  wrote_later before between after front begun' out count' ps more all a b c written taken are broken = let (went, unwritten, is, did) = broken.written in record {
     first = whole_from [] front ++ broken.first;
     unanswered = broken.unanswered ++ more;
     cut = are ∙ ap (λ l. (whole_from [] front ++ l) ++ more) broken.cut ∙ simp append_assoc;
-    out = out ++ broken.out;
-    unwritten = broken.unwritten;
+    ready = out ++ broken.ready;
     behind = broken.behind;
-    answered = rw (append_assoc out broken.out broken.unwritten) (answered_more Reply taken.answered (rw taken.counted at broken.answered));
-    written = Appends-trans a b c out broken.out written broken.written;
+    answered = answered_more Reply taken.answered (rw taken.counted at broken.answered);
+    written = (out ++ went, unwritten, ap (λ l. out ++ l) is ∙ sym (append_assoc out went unwritten), Appends-trans a b c out went written did);
     next = broken.next;
     left = subst (λ n. GotNoReply Reply broken.behind (line_at n broken.next) after) (rw length-append (omega (arith, taken.counted))) broken.left;
   }
@@ -54,19 +53,21 @@ module _ {S : Type 0} (Reply : S → Line → Option (List ℕ) → S → Type 0
   pub halted_block : (fault : ServeFault) (before between after : S) (front back begun' out : List ℕ) (count' : ℕ) (a b c : Option (List ℕ)) → Appends a b out
       → Taken Reply [] 0 before front begun' count' between out → Halted Reply fault begun' count' between back (whole_from begun' back) after b c
       → EndedAt Reply fault before (front ++ back) after a c
-  halted_block fault before between after front back begun' out count' a b c written taken halted = grind (arith, halted_later, whole_from-append)
+  halted_block fault before between after front back begun' out count' a b c written taken halted =
+      halted_later fault before between after front back begun' out count' (whole_from begun' back) _ a b c written taken
+      (ap (λ l. l ++ unless_empty (rest_from [] (front ++ back))) (rw taken.rest (whole_from-append [] front back))) halted
 
   -- that of the last line
   pub halted_last : (fault : ServeFault) (before between after : S) (bytes begun' out : List ℕ) (count' : ℕ) (a b c : Option (List ℕ)) → Appends a b out
-      → Taken Reply [] 0 before bytes begun' count' between out → Halted Reply fault begun' count' between [] (last_piece begun') after b c
+      → Taken Reply [] 0 before bytes begun' count' between out → Halted Reply fault begun' count' between [] (unless_empty begun') after b c
       → EndedAt Reply fault before bytes after a c
   halted_last fault before between after bytes begun' out count' a b c written taken halted =
-      subst (λ l. EndedAt Reply fault before l after a c) (append-nil bytes) (halted_later fault before between after bytes [] begun' out count' (last_piece begun') [] a b c written taken
+      subst (λ l. EndedAt Reply fault before l after a c) (append-nil bytes) (halted_later fault before between after bytes [] begun' out count' (unless_empty begun') [] a b c written taken
       (ap pieces (append-nil bytes) ∙ rw (← taken.rest) (sym (append-nil _))) halted)
 
   -- the last line is answered, and so the input
   pub served_whole : (before between after : S) (bytes begun' out other : List ℕ) (count' : ℕ) (a b c : Option (List ℕ)) → Appends a b out
-      → Taken Reply [] 0 before bytes begun' count' between out → Appends b c other → AreAnswered Reply count' between (last_piece begun') after other
+      → Taken Reply [] 0 before bytes begun' count' between out → Appends b c other → AreAnswered Reply count' between (unless_empty begun') after other
       → Served Reply before bytes after a c
   served_whole before between after bytes begun' out other count' a b c written taken more last =
-      grind (arith, Appends-trans, answered_more Reply taken.answered (rw (taken.rest, taken.counted) at last))
+      (out ++ other, Appends-trans a b c out other written more, answered_more Reply taken.answered (rw (taken.rest, taken.counted) at last))

@@ -1,6 +1,6 @@
 -- The laws of the pieces of an input, and of its lines.
 use Rattle.std.specs.Prelude.{◌≡◌, ℕ, List, [], ◌∷◌, ◌++◌, All}
-use Rattle.mv_engine.specs.Lines.{whole_from, rest_from, last_piece, pieces, lines_of, IsUnended}
+use Rattle.mv_engine.specs.Lines.{whole_from, rest_from, unless_empty, pieces, lines_of, IsUnended}
 use Rattle.mv_engine.specs.Replies.{text_lines}
 
 -- the pieces that end by a line feed, each with it, and behind them what stands behind the last one, are the bytes
@@ -15,7 +15,7 @@ PiecesAreUnended = (bytes : List ℕ) → All IsUnended (pieces bytes)
 abbrev pub PiecesReadBack : Type 0
 PiecesReadBack =
     (texts : List (List ℕ)) (last : List ℕ) → All IsUnended texts → IsUnended last
-    → pieces (text_lines texts ++ last) ≡ texts ++ last_piece last
+    → pieces (text_lines texts ++ last) ≡ texts ++ unless_empty last
 
 -- behind a line feed the pieces begin anew
 abbrev pub PiecesCompose : Type 0

@@ -16,14 +16,14 @@ abbrev pub rest_from : List ℕ → List ℕ → List ℕ
 rest_from begun [] = begun
 rest_from begun (x ∷ xs) = if x == 10 then rest_from [] xs else rest_from (begun ++ x ∷ []) xs
 
--- a last piece without line feed, if it isn't empty
-abbrev pub last_piece : List ℕ → List (List ℕ)
-last_piece [] = []
-last_piece (x ∷ xs) = (x ∷ xs) ∷ []
+-- a list of these bytes alone, or the empty list where there are none: of a last piece without line feed, and of a line
+abbrev pub unless_empty : List ℕ → List (List ℕ)
+unless_empty [] = []
+unless_empty (x ∷ xs) = (x ∷ xs) ∷ []
 
 -- all pieces of an input, in order
 abbrev pub pieces : List ℕ → List (List ℕ)
-pieces bytes = whole_from [] bytes ++ last_piece (rest_from [] bytes)
+pieces bytes = whole_from [] bytes ++ unless_empty (rest_from [] bytes)
 
 -- a line that isn't empty: which of the input it is, counted from one with the empty ones, and its bytes
 pub record Line : Type 0 where
@@ -33,16 +33,11 @@ pub record Line : Type 0 where
 abbrev pub line_at : ℕ → List ℕ → Line
 line_at number bytes = record { number = number; bytes = bytes }
 
--- the line of this number, unless it is empty
-abbrev pub line_unless_empty : ℕ → List ℕ → List Line
-line_unless_empty number [] = []
-line_unless_empty number (x ∷ xs) = line_at number (x ∷ xs) ∷ []
-
 -- The lines that pieces are which come after `count` others, without those that are empty: one final carriage return (13) is dropped
 -- of each piece.
 abbrev pub lines_from : ℕ → List (List ℕ) → List Line
 lines_from count [] = []
-lines_from count (piece ∷ ps) = line_unless_empty (count + 1) (strip_last 13 piece) ++ lines_from (count + 1) ps
+lines_from count (piece ∷ ps) = map (line_at (count + 1)) (unless_empty (strip_last 13 piece)) ++ lines_from (count + 1) ps
 
 -- the line that is begun behind these bytes, which came when it had `begun` and `count` lines had come
 abbrev pub line_begun : ℕ → List ℕ → List ℕ → Line

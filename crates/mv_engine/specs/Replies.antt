@@ -1,5 +1,6 @@
 -- The replies to lines, by a rule that says what a reply to one line may be.
 use Rattle.std.specs.Prelude.{◌≡◌, ℕ, List, [], ◌∷◌, ◌++◌, ◌⊎◌, flat_map, Bool, true, false, Option, Some, None}
+use Rattle.std.specs.List.{filter_map}
 use Rattle.mv_engine.specs.Lines.{Line}
 
 -- Which replies to a line are right: what answers before the line, the line, the reply's text, if there is one, and what answers the
@@ -23,10 +24,9 @@ Readied old new Fact = (out : List ℕ) × (new ≡ old ++ out) × Fact out
 -- each text, or its want, is a right reply to the line at its place
 abbrev pub AreReplies : {S : Type 0} → ReplyRule S → S → List Line → List (Option (List ℕ)) → S → Type 0
 AreReplies rule before [] [] after = after ≡ before
-AreReplies rule before [] (text ∷ texts) after = ⊥
-AreReplies rule before (line ∷ lines) [] after = ⊥
 AreReplies {S = S} rule before (line ∷ lines) (text ∷ texts) after =
     (between : S) × rule before line text between × AreReplies rule between lines texts after
+AreReplies rule before lines texts after = ⊥
 
 -- the bytes of texts that each end by a line feed (10)
 abbrev pub text_lines : List (List ℕ) → List ℕ
@@ -34,9 +34,7 @@ text_lines texts = flat_map (λ text. text ++ 10 ∷ []) texts
 
 -- the texts that there are
 abbrev pub said_texts : List (Option (List ℕ)) → List (List ℕ)
-said_texts [] = []
-said_texts (None ∷ texts) = said_texts texts
-said_texts (Some text ∷ texts) = text ∷ said_texts texts
+said_texts texts = filter_map (λ text. text) texts
 
 -- these bytes are right replies to the lines, each ended by a line feed
 abbrev pub IsReplies : {S : Type 0} → ReplyRule S → S → List Line → List ℕ → S → Type 0

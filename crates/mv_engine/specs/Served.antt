@@ -3,7 +3,8 @@ use Rattle.std.specs.Prelude.{◌≡◌, ◌≢◌, ℕ, ◌+◌, ◌<◌, List,
 use Rattle.std.specs.Io.KnownBytes.{Appends}
 use Rattle.mv_engine.specs.declared.fault.ServeFault.{ServeFault}
 use Rattle.mv_engine.specs.declared.fault.ServeFault.TheVariants.{Read, Write, Memory, TooManyLines, LineTooLong}
-use Rattle.mv_engine.specs.Lines.{Line, line_at, line_begun, whole_from, rest_from, pieces, lines_from, line_limit, lines_limit, KeepLimits}
+use Rattle.mv_engine.specs.Lines.{line_at, line_begun, whole_from, rest_from, pieces, lines_from, line_limit, lines_limit, KeepLimits}
+use Rattle.mv_engine.specs.Output.{WrotePart}
 use Rattle.mv_engine.specs.Replies.{ReplyRule, IsReplies, GotNoReply}
 
 -- some bytes went out, and the fact holds of them
@@ -33,14 +34,9 @@ StopsAt fault begun count good bad = ⊥
 abbrev pub StopsIn : ServeFault → List ℕ → ℕ → List ℕ → Type 0
 StopsIn fault begun count bytes = (good : List ℕ) × (bad : List ℕ) × (bytes ≡ good ++ bad) × StopsAt fault begun count good bad
 
--- What answers is left behind the lines that were answered; where memory was refused, the next line got no reply.
-abbrev pub LeftBy : {S : Type 0} → ServeFault → ReplyRule S → S → Line → S → Type 0
-LeftBy TooManyLines rule behind next after = after ≡ behind
-LeftBy LineTooLong rule behind next after = after ≡ behind
-LeftBy fault rule behind next after = GotNoReply rule behind next after
-
 -- The taking of the bytes stopped at a place, `out` are the replies to the lines that end before it, which keep the limits, and what
--- answers is left in the state `after`.
+-- answers is left in the state `after`: behind these lines, or, only where memory was refused, perhaps behind the next, to which no reply
+-- stands ready.
 pub record StoppedAt {S : Type 0} (rule : ReplyRule S) (fault : ServeFault) (begun : List ℕ) (count : ℕ) (before : S)
     (bytes : List ℕ) (after : S) (out : List ℕ) : Type 0 where
   pub good : List ℕ
@@ -49,7 +45,8 @@ pub record StoppedAt {S : Type 0} (rule : ReplyRule S) (fault : ServeFault) (beg
   pub why : StopsAt fault begun count good bad
   pub behind : S
   pub answered : AreAnswered rule count before (whole_from begun good) behind out
-  pub left : LeftBy fault rule behind (line_begun count begun good) after
+  pub left : GotNoReply rule behind (line_begun count begun good) after
+  pub left_alone : fault ≢ Memory → after ≡ behind
 
 -- Of the replies to some first pieces the first bytes went out, and no more. Those pieces keep the limits, behind `count` lines. What
 -- answers is left in the state `after`: behind the lines whose replies were ready. Where memory was refused before the write failed, the
@@ -59,19 +56,16 @@ pub record WroteAt {S : Type 0} (rule : ReplyRule S) (count : ℕ) (before : S) 
   pub first : List (List ℕ)
   pub unanswered : List (List ℕ)
   pub cut : ps ≡ first ++ unanswered
-  pub out : List ℕ
-  pub unwritten : List ℕ
+  pub ready : List ℕ
   pub behind : S
-  pub answered : AreAnswered rule count before first behind (out ++ unwritten)
-  pub written : Appends old new out
+  pub answered : AreAnswered rule count before first behind ready
+  pub written : WrotePart ready old new
   pub next : List ℕ
   pub left : GotNoReply rule behind (line_at (count + length first + 1) next) after
 
 -- A whole input was answered: its lines keep the limits, and the replies to them went out.
-pub record Served {S : Type 0} (rule : ReplyRule S) (before : S) (bytes : List ℕ) (after : S) (old new : Option (List ℕ)) : Type 0 where
-  pub out : List ℕ
-  pub written : Appends old new out
-  pub answered : AreAnswered rule 0 before (pieces bytes) after out
+abbrev pub Served : {S : Type 0} → ReplyRule S → S → List ℕ → S → Option (List ℕ) → Option (List ℕ) → Type 0
+Served rule before bytes after old new = Wrote old new (AreAnswered rule 0 before (pieces bytes) after)
 
 -- What a run that read these bytes and ended by a fault has written, and in which state `after` what answers is left. Where a read failed:
 -- the replies to the lines that ended; what was read keeps the limits, the line that it leaves begun too. Where a write failed: the first
@@ -85,6 +79,5 @@ EndedAt rule Write before bytes after old new = WroteAt rule 0 before (pieces by
 EndedAt rule fault before bytes after old new = Wrote old new (StoppedAt rule fault [] 0 before bytes after)
 
 -- the same, whatever the state is
-pub record Ended {S : Type 0} (rule : ReplyRule S) (fault : ServeFault) (before : S) (bytes : List ℕ) (old new : Option (List ℕ)) : Type 0 where
-  pub after : S
-  pub ended : EndedAt rule fault before bytes after old new
+abbrev pub Ended : {S : Type 0} → ReplyRule S → ServeFault → S → List ℕ → Option (List ℕ) → Option (List ℕ) → Type 0
+Ended {S = S} rule fault before bytes old new = (after : S) × EndedAt rule fault before bytes after old new

@@ -2,7 +2,7 @@
 
 ghost use Rattle.std.specs.Prelude.{◌≡◌, ◌+◌, ◌<◌, ◌≤◌, [], ◌∷◌, ◌++◌, length, OnOk, IfErr, vec_items};
 ghost use Rattle.std.specs.Io.BufRead.{strip_last};
-ghost use Rattle.mv_engine.specs.Lines.{IsUnended, last_piece, line_begun, line_limit, lines_limit, whole_from};
+ghost use Rattle.mv_engine.specs.Lines.{IsUnended, unless_empty, line_begun, line_limit, lines_limit, whole_from};
 ghost use Rattle.mv_engine.specs.Replies.{GotNoReply, Readied};
 ghost use Rattle.mv_engine.specs.Served.{AreAnswered, Wrote, StopsIn, StoppedAt};
 ghost use Rattle.mv_engine.specs.Taking.{Taken, Halted};
@@ -68,10 +68,10 @@ impl Input {
         writer: &mut W,
     ) -> Result<(), ServeFault>
         ensures ok { OnOk result (Wrote (W.contents writer.old) (W.contents writer.new)
-            (AreAnswered S.replies self.old.lines answering.old (last_piece self.old.begun.items) answering.new)) }
+            (AreAnswered S.replies self.old.lines answering.old (unless_empty self.old.begun.items) answering.new)) }
         ensures err { IfErr result (λ fault.
             Halted S.replies fault self.old.begun.items self.old.lines answering.old []
-            (last_piece self.old.begun.items) answering.new (W.contents writer.old) (W.contents writer.new)) }
+            (unless_empty self.old.begun.items) answering.new (W.contents writer.old) (W.contents writer.new)) }
     {
         self.replies.clear();
         let answered = self.finish(answering);
@@ -181,7 +181,7 @@ impl Input {
     /// Answers the last line, if the input doesn't end by a line feed.
     fn finish<S: Answering>(&mut self, answering: &mut S) -> Result<(), ServeFault>
         ensures ok { OnOk result (Readied self.old.replies.items self.new.replies.items
-            (AreAnswered S.replies self.old.lines answering.old (last_piece self.old.begun.items) answering.new)) }
+            (AreAnswered S.replies self.old.lines answering.old (unless_empty self.old.begun.items) answering.new)) }
         ensures err { IfErr result (λ fault.
             Readied self.old.replies.items self.new.replies.items (λ out.
             StoppedAt S.replies fault self.old.begun.items self.old.lines answering.old

@@ -68,11 +68,11 @@ part_told entries field (parts.Text text) met = λ value has.
 
 -- an object that has no other field than those of its kind asks what they do
 pub request_read : (value : Data) (entries : List LineEntry) (kind : LineKind) (request : Request) → HasEntries value entries
-    → All (λ met. IsOneOf (fields.Do ∷ (shape_of kind).others) met.field) entries → kind_at value ≡ Ok kind
+    → All (λ met. IsOneOf (fields.Do ∷ (shape_of kind).0) met.field) entries → kind_at value ≡ Ok kind
     → request_at kind value ≡ Ok request → read_request value ≡ Ok request
 unfolding read_request
 request_read value entries kind request has among named asks =
-    let (members, is_object, known) = known_only field_name (λ met. met.field) (fields.Do ∷ (shape_of kind).others) has among in
+    let (members, is_object, known) = known_only field_name (λ met. met.field) (fields.Do ∷ (shape_of kind).0) has among in
     let opened : as_object value ≡ Some members = ap as_object is_object in
     rw (opened, named, none_unknown (names_of kind) (keys_of members) known) asks
 

@@ -2,17 +2,11 @@
 use Rattle.std.proofs.Common.{◌≡◌, ℕ, Bool, List, [], ◌∷◌, refl, arith, cond, is_some, option_and_then, option_map, Option, Some, Result, Ok, Err}
 use Rattle.mv_format.proofs.Words.{Data, Items, LineFault, LineField, Market, Pack, as_str, item, items_view, list_all, market_item, market_list, market_lists_at, nat_tests, no_items, read_all, read_market, view, walked_lists_at}
 use Rattle.mv_json.specs.Reading.{each_of, as_list, ◌and_then◌}
+use Rattle.mv_json.proofs.ReadingLemmas.{all_some}
 use Rattle.std.specs.Result.{is_ok}
 use Rattle.serde_json.specs.declared.value.Value.{Value}
 
--- all values are something where the list of what they are is
-all_some : {A : Type 0} (as_one : Data → Option A) (vs : List Value) → list_all (λ v. is_some (as_one (view v))) vs ≡ is_some (each_of as_one (items_view vs))
-all_some as_one [] = refl
-all_some as_one (v ∷ vs) = grind (arith, all_some as_one vs)
-
-pub all_are_texts : (vs : List Value) → list_all (λ v. is_some (as_str (view v))) vs ≡ is_some (each_of as_str (items_view vs))
-all_are_texts = all_some as_str
-
+-- all values are lists of texts where the list of what they are is one
 pub all_are_text_lists : (vs : List Value) → list_all (λ v. is_some (as_list as_str (view v))) vs ≡ is_some (each_of (as_list as_str) (items_view vs))
 all_are_text_lists = all_some (as_list as_str)
 

@@ -2,6 +2,7 @@
 use Rattle.std.proofs.Common.{◌≡◌, ◌<◌, ℕ, ◌^◌, List, [], ◌∷◌, map, refl, subst, arith, true, lt-ltb, Bool, ok_or, Option, Some, option_and_then, Result, Ok, Err, IfOk}
 use Rattle.mv_format.proofs.Words.{AllByRecursion, Asking, Data, IsMarket, Kind, LineFault, LineField, LineKind, Open, Request, Step, Unknown, array, as_number, as_str, as_u64, asked_at, items_of, kind_at, list_all, market_lists_at, member_at, message_at, nat_tests, number_at, of_32_bits, read_at, read_is_legal, read_request, reads_back, request_at, shape_of, string, strings}
 use Rattle.mv_json.specs.Reading.{map_err, each_of, as_list, ◌and_then◌}
+use Rattle.mv_json.proofs.ReadingLemmas.{each_back}
 use Rattle.std.specs.Option.{option_map_or}
 use Rattle.std.proofs.lemmas.Bool.{and_parts}
 use Rattle.mv_pack.proofs.CodeLemmas.{read_code_of, read_code_is_code}
@@ -15,10 +16,6 @@ use Rattle.mv_format.specs.declared.field.LineField.TheVariants as fields
 use Rattle.mv_format.specs.declared.kind.LineKind.TheVariants as kinds
 
 -- each list of markets is a list of texts, and these are markets
-each_back : {A : Type 0} (as_one : Data → Option A) (value : A → Data) → ((x : A) → as_one (value x) ≡ Some x) → (xs : List A) → each_of as_one (items_of (map value xs)) ≡ Some xs
-each_back as_one value one [] = refl
-each_back as_one value one (x ∷ xs) = rw (one x, each_back as_one value one xs) refl
-
 lists_back : (lists : List (List (List ℕ))) → each_of (as_list as_str) (items_of (map (λ markets. array (strings markets)) lists)) ≡ Some lists
 lists_back = each_back (as_list as_str) (λ markets. array (strings markets)) (each_back as_str string (λ text. refl))
 
@@ -100,7 +97,7 @@ asked_gave [] request value legal = legal
 asked_gave (field ∷ rest) asks value legal =
     then_gave (meaning_of field).IsLegal IsLegalRequest ((meaning_of field).read value) _ (meaning_gave field value) (λ x is. asked_gave rest (asks x) value (legal x is))
 
-kinds_ask : (kind : LineKind) → AsksLegal (shape_of kind).others (shape_of kind).asks
+kinds_ask : (kind : LineKind) → AsksLegal (shape_of kind).0 (shape_of kind).1
 kinds_ask kinds.Open = λ parties legal submissions s uplink u window w wire i. (legal, (s, (u, (w, (i, tt)))))
 kinds_ask kinds.Submit = λ from small message legal. (small, (legal, tt))
 kinds_ask kinds.Route = λ from small. (small, tt)
@@ -114,7 +111,7 @@ kinds_ask kinds.Verdict = λ party small q less. (small, (less, tt))
 
 request_gave : (kind : LineKind) (value : Data) → IfOk (request_at kind value) IsLegalRequest
 unfolding request_at
-request_gave kind value = asked_gave (shape_of kind).others (shape_of kind).asks value (kinds_ask kind)
+request_gave kind value = asked_gave (shape_of kind).0 (shape_of kind).1 value (kinds_ask kind)
 
 -- what reading gives, where no key is unknown
 abbrev unless_unknown : {A : Type 0} → Option (List ℕ) → Result A LineFault → Result A LineFault

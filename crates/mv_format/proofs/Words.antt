@@ -10,7 +10,7 @@ pub use Rattle.mv_format.specs.Reading.{member_at, of_32_bits}
 unfoldable pub use Rattle.mv_format.specs.Reading.{market_lists_at, message_at, number_at, read_at}
 pub use Rattle.mv_format.specs.Requests.{asked_at, read_line}
 unfoldable pub use Rattle.mv_format.specs.Requests.{read_request, request_at}
-pub use Rattle.mv_format.specs.Writing.{entry_of, entry_tokens, member_tokens, member_where, members_of}
+pub use Rattle.mv_format.specs.Writing.{entry_of, entry_tokens, member_tokens, members_of, members_where}
 unfoldable pub use Rattle.mv_format.specs.Writing.{tokens_of}
 pub use Rattle.mv_format.specs.declared.line_fault.LineFault.TheVariants.{Kind, Pack, Unknown}
 pub use Rattle.mv_json.proofs.ReadsLemmas.{none_unknown, read_is_legal, reads_back}

@@ -1,6 +1,6 @@
 -- What is written of a reply's object is its canonical text.
 use Rattle.std.proofs.Common.{◌≡◌, ℕ, ◌≤◌, List, [], ◌∷◌, ◌++◌, refl, ap, map, flat_map, length, take, take_all, ◌∙◌, append_assoc, arith, IfOk, OnOk, Option, Result}
-use Rattle.mv_format.proofs.Words.{Data, Token, array, begin_array, begin_object, end_array, end_object, entry_of, entry_tokens, items_of, key, member_tokens, member_where, members_of, nat_tests, object, tokens_of}
+use Rattle.mv_format.proofs.Words.{Data, Token, array, begin_array, begin_object, end_array, end_object, entry_of, entry_tokens, items_of, key, member_tokens, members_of, members_where, nat_tests, object, tokens_of}
 use Rattle.json.specs.Tree.{items_tokens, members_tokens}
 use Rattle.json.specs.Print.{print}
 use Rattle.serde_json.specs.Written.{items_outline, members_outline, compact_text}
@@ -9,7 +9,8 @@ use Rattle.mv_format.specs.declared.members.Member.{Member}
 
 -- the tokens of a key and its value, if there is one, and of the members behind it
 entry_is : (name : List ℕ) (value : Option Data) (ms : List Member) → members_tokens (members_outline (members_of ms)) ≡ flat_map member_tokens ms ++ end_object ∷ []
-    → members_tokens (members_outline (member_where name value (members_of ms))) ≡ (entry_tokens name value ++ flat_map member_tokens ms) ++ end_object ∷ []
+    → members_tokens (members_outline (members_where ((name, value) ∷ map entry_of ms)))
+    ≡ (entry_tokens name value ++ flat_map member_tokens ms) ++ end_object ∷ []
 unfolding tokens_of
 entry_is name value ms are = grind (arith, nat_tests, append_assoc)
 

@@ -26,32 +26,23 @@ abbrev pub Asking : List LineField → Type 0
 Asking [] = Request
 Asking (field ∷ rest) = (meaning_of field).Value → Asking rest
 
--- the fields of a line behind `do`, in byte order of their names, and what their values ask
-pub record Shape : Type 0 where
-  pub others : List LineField
-  pub asks : Asking others
-
--- the shape of the lines of a kind
-abbrev pub shape_of : LineKind → Shape
-shape_of kinds.Open =
-    record { others = fields.Parties ∷ fields.Submissions ∷ fields.Uplink ∷ fields.Window ∷ fields.Wire ∷ []; asks = Open }
-shape_of kinds.Submit = record { others = fields.From ∷ fields.Message ∷ []; asks = λ from message. Step (steps.Submit from message) }
-shape_of kinds.Route = record { others = fields.From ∷ []; asks = λ from. Step (steps.Route from) }
-shape_of kinds.Relay = record { others = fields.From ∷ fields.To ∷ []; asks = λ from to. Step (steps.Relay from to) }
-shape_of kinds.Apply = record { others = fields.From ∷ fields.To ∷ []; asks = λ from to. Step (steps.Apply from to) }
-shape_of kinds.Repeat =
-    record { others = fields.From ∷ fields.Number ∷ fields.To ∷ []; asks = λ from number to. Step (steps.Repeat from to number) }
-shape_of kinds.Close = record { others = fields.From ∷ fields.To ∷ []; asks = λ from to. Step (steps.Close from to) }
-shape_of kinds.Lose = record { others = fields.From ∷ fields.To ∷ []; asks = λ from to. Step (steps.Lose from to) }
-shape_of kinds.Verify = record {
-  others = fields.Gtin ∷ fields.Party ∷ fields.Serial ∷ [];
-  asks = λ gtin party serial. Step (steps.Verify party (pack_key gtin serial));
-}
-shape_of kinds.Verdict = record { others = fields.Party ∷ fields.Q ∷ []; asks = λ party q. Step (steps.Verdict party q) }
+-- the fields of a line of a kind behind `do`, in byte order of their names, and what their values ask
+abbrev pub shape_of : LineKind → (others : List LineField) × Asking others
+shape_of kinds.Open = (fields.Parties ∷ fields.Submissions ∷ fields.Uplink ∷ fields.Window ∷ fields.Wire ∷ [], Open)
+shape_of kinds.Submit = (fields.From ∷ fields.Message ∷ [], λ from message. Step (steps.Submit from message))
+shape_of kinds.Route = (fields.From ∷ [], λ from. Step (steps.Route from))
+shape_of kinds.Relay = (fields.From ∷ fields.To ∷ [], λ from to. Step (steps.Relay from to))
+shape_of kinds.Apply = (fields.From ∷ fields.To ∷ [], λ from to. Step (steps.Apply from to))
+shape_of kinds.Repeat = (fields.From ∷ fields.Number ∷ fields.To ∷ [], λ from number to. Step (steps.Repeat from to number))
+shape_of kinds.Close = (fields.From ∷ fields.To ∷ [], λ from to. Step (steps.Close from to))
+shape_of kinds.Lose = (fields.From ∷ fields.To ∷ [], λ from to. Step (steps.Lose from to))
+shape_of kinds.Verify =
+    (fields.Gtin ∷ fields.Party ∷ fields.Serial ∷ [], λ gtin party serial. Step (steps.Verify party (pack_key gtin serial)))
+shape_of kinds.Verdict = (fields.Party ∷ fields.Q ∷ [], λ party q. Step (steps.Verdict party q))
 
 -- the names of the fields of a kind, in byte order
 abbrev pub names_of : LineKind → List (List ℕ)
-names_of kind = map field_name (fields.Do ∷ (shape_of kind).others)
+names_of kind = map field_name (fields.Do ∷ (shape_of kind).0)
 
 -- the kind of an object: M3, M5
 unfoldable pub kind_at : Data → Result LineKind LineFault

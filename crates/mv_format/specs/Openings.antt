@@ -4,8 +4,8 @@ use Rattle.mv_hub.specs.Fault.{code_of as hub_code}
 use Rattle.mv_machine.specs.Limits.{code_of as limits_code}
 use Rattle.mv_format.specs.declared.open_fault.OpenFault.{OpenFault}
 use Rattle.mv_format.specs.declared.open_fault.OpenFault.TheVariants.{NotOpen, AlreadyOpen, Parties, Limits, Memory}
--- the word for what an opening gives, for those who read openings
-pub use Rattle.mv_json.specs.Reading.{map_err}
+-- the words for what reading gives, for those who read lines and openings
+pub use Rattle.mv_json.specs.Reading.{◌and_then◌, map_err}
 
 -- the number of a fault
 abbrev pub code_of : OpenFault → List ℕ

@@ -4,7 +4,7 @@ use Rattle.mv_format.specs.Words.{Character, Data, Items, LineFault, MessageFaul
 use Rattle.mv_pack.specs.Fault.{code_of as pack_code}
 use Rattle.mv_json.specs.Fault.{code_of as message_code}
 use Rattle.mv_json.specs.Fields.{field_name as message_field_name}
-use Rattle.mv_repository.specs.Effect.{code_of as effect_code}
+use Rattle.mv_repository.specs.Pack.{code_of as effect_code}
 use Rattle.mv_repository.specs.declared.effect.Effect.{Effect}
 use Rattle.mv_repository.specs.declared.effect.Effect.TheVariants.{Uploaded}
 use Rattle.mv_repository.specs.declared.verdict.Joint.TheVariants.{NotAsked, Pending, Decided}
@@ -39,10 +39,6 @@ abbrev pub number_where : List ℕ → Option ℕ → List (List ℕ × Data)
 number_where key None = []
 number_where key (Some n) = (key, whole n) ∷ []
 
--- a refusal by its number, with the number of a line, where that is said
-abbrev pub refused_at : Option ℕ → List ℕ → Data
-refused_at line code = object_of (number_where (codes "line") line ++ (codes "refused", string code) ∷ [])
-
 -- a refusal that names a field
 abbrev pub refused_field : Option ℕ → List ℕ → List ℕ → Data
 refused_field line field code =
@@ -68,7 +64,7 @@ message_fault_value line (message.Kind field) = refused_field line (message_fiel
 message_fault_value line (message.Pack field fault) = refused_pack line fault (message_field_name field)
 message_fault_value line (message.Count field) = refused_field line (message_field_name field) (codes "M7")
 message_fault_value line (message.TextLength field) = refused_field line (message_field_name field) (codes "M8")
-message_fault_value line fault = refused_at line (message_code fault)
+message_fault_value line fault = object_of (number_where (codes "line") line ++ (codes "refused", string (message_code fault)) ∷ [])
 
 -- the refusal of a fault of a line
 abbrev pub line_fault_value : LineFault → Data

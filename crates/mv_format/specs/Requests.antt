@@ -12,7 +12,7 @@ asked_at (field ∷ rest) asks value = (meaning_of field).read value and_then λ
 
 -- what the fields of a line of a kind ask
 unfoldable pub request_at : LineKind → Data → Result Request LineFault
-request_at kind value = asked_at (shape_of kind).others (shape_of kind).asks value
+request_at kind value = asked_at (shape_of kind).0 (shape_of kind).1 value
 
 -- What the value of a line asks, or the first fault: M2, those of `do`, M4 with the first key that the kind does not have, then those
 -- of each field.

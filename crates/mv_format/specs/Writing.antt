@@ -1,6 +1,6 @@
 -- What is written of a reply's object.
-use Rattle.std.specs.Prelude.{◌≡◌, ℕ, List, [], ◌∷◌, ◌++◌, codes, IfOk, Option, Some, None, option_map, Result, MatchResult}
-use Rattle.mv_format.specs.Words.{Data, Members, Token, array, boolean, key, member, no_members, null, string, value_of, whole}
+use Rattle.std.specs.Prelude.{◌≡◌, ℕ, List, [], ◌∷◌, ◌++◌, codes, map, IfOk, Option, Some, None, option_map, Result, MatchResult}
+use Rattle.mv_format.specs.Words.{Data, Members, Token, array, boolean, key, member, no_members, null, option_map_or, string, value_of, whole}
 use Rattle.json.specs.Tree.{json_tokens}
 use Rattle.json.specs.Written.{Written}
 use Rattle.serde_json.specs.Written.{outline, compact_text}
@@ -13,22 +13,19 @@ use Rattle.mv_format.specs.declared.members.Member.TheVariants as members
 
 -- a national number; null where there is none
 abbrev pub national_value : Option (List ℕ) → Data
-national_value None = null
-national_value (Some national) = string national
+national_value national = option_map_or string national null
 
--- what changed a pack: the moment, the party that asked for it, and its user
-abbrev pub change_object : ℕ → ℕ → List ℕ → Data
-change_object at by user = object_of ((codes "at", whole at) ∷ (codes "by", whole by) ∷ (codes "user", string user) ∷ [])
-
--- a change that this user asked for; null where there is none
+-- what changed a pack: the moment, the party that asked for it, and its user; null where nothing did
 abbrev pub change_value : Option Change → List ℕ → Data
 change_value None user = null
-change_value (Some change) user = change_object change.at change.by user
+change_value (Some change) user =
+    object_of ((codes "at", whole change.at) ∷ (codes "by", whole change.by) ∷ (codes "user", string user) ∷ [])
 
--- a member before others, where there is a value; else these alone
-abbrev pub member_where : List ℕ → Option Data → Members → Members
-member_where name None rest = rest
-member_where name (Some value) rest = member name value rest
+-- the members of an object, but for those that have no value
+abbrev pub members_where : List (List ℕ × Option Data) → Members
+members_where [] = no_members
+members_where ((name, None) ∷ rest) = members_where rest
+members_where ((name, Some value) ∷ rest) = member name value (members_where rest)
 
 -- the key of a member, and its value, if there is one
 abbrev pub entry_of : Member → List ℕ × Option Data
@@ -47,8 +44,7 @@ entry_of (members.Change name change user) = (name.now, Some (change_value chang
 
 -- the members, in order
 abbrev pub members_of : List Member → Members
-members_of [] = no_members
-members_of (m ∷ rest) = member_where (entry_of m).0 (entry_of m).1 (members_of rest)
+members_of ms = members_where (map entry_of ms)
 
 -- the tokens of a value
 unfoldable pub tokens_of : Data → List Token

@@ -36,7 +36,7 @@ pub(crate) enum LineKind {
 impl LineKind {
     /// The fields of such a line, in byte order of their names.
     pub(crate) fn fields(self) -> &'static [LineField]
-        ensures { result.now ≡ LineField.Do ∷ (shape_of self).others }
+        ensures { result.now ≡ LineField.Do ∷ (shape_of self).0 }
     {
         use LineField::*;
         match self {

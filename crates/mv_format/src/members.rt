@@ -2,13 +2,13 @@
 
 ghost use Rattle.std.specs.Prelude.{◌≡◌, ◌++◌, IfOk};
 ghost use Rattle.mv_format.specs.Words.{object, value_of};
-ghost use Rattle.mv_format.specs.Writing.{Adds, Appended, change_object, change_value, national_value, members_of, member_tokens};
+ghost use Rattle.mv_format.specs.Writing.{Adds, Appended, change_value, national_value, members_of, member_tokens};
 
 use crate::to_json::write_list;
 use crate::{ToJson, append_json};
 use json::Writer;
 use mv_link::Reached;
-use mv_message::{Markets, Message, Party};
+use mv_message::{Markets, Message};
 use mv_pack::National;
 use mv_repository::Change;
 use std::alloc::{AllocError, Global};
@@ -151,23 +151,14 @@ fn write_change(writer: &mut Writer, change: &Option<Change>, user: &str) -> Res
     ensures before { writer.new.before ≡ writer.old.before }
     ensures added { Adds result writer.old writer.new (change_value change.now user.now) }
 {
-    match change {
-        Some(change) => write_fields(writer, change.at.seconds(), change.by, user),
-        None => writer.null(),
-    }
-}
-
-/// Writes the moment, the party and the user of a change.
-#[tactic(auto, unfolding(crate::specs::Writing::tokens_of))]
-fn write_fields(writer: &mut Writer, at: u64, by: Party, user: &str) -> Result<(), AllocError>
-    ensures before { writer.new.before ≡ writer.old.before }
-    ensures added { Adds result writer.old writer.new (change_object at by user.now) }
-{
+    let Some(change) = change else {
+        return writer.null();
+    };
     writer.begin_object()?;
     writer.key("at")?;
-    writer.u64(at)?;
+    writer.u64(change.at.seconds())?;
     writer.key("by")?;
-    writer.u64(u64::from(by))?;
+    writer.u64(u64::from(change.by))?;
     writer.key("user")?;
     writer.string(user)?;
     writer.end_object()

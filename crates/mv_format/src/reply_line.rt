@@ -1,9 +1,11 @@
 //! The replies, each written as the canonical text of one JSON object.
 
-ghost use Rattle.std.specs.Prelude.{◌≡◌, IfOk, None, string_bytes};
+ghost use Rattle.std.specs.Prelude.{◌≡◌, ◌++◌, ◌∷◌, [], codes, IfOk, None, string_bytes};
 ghost use Rattle.serde_json.specs.Written.{compact_text};
+ghost use Rattle.mv_format.specs.Objects.{object_of};
+ghost use Rattle.mv_format.specs.Words.{string};
 ghost use Rattle.mv_format.specs.Writing.{Adds, Appended};
-ghost use Rattle.mv_format.specs.ReplyLines.{answer_value, numbered, place_of, refused, refused_at, refused_field, refused_pack, message_fault_value, line_fault_value, refusal_value, verdict_value, reply_value};
+ghost use Rattle.mv_format.specs.ReplyLines.{answer_value, number_where, numbered, place_of, refused, refused_field, refused_pack, message_fault_value, line_fault_value, refusal_value, verdict_value, reply_value};
 
 use crate::members::Member::{Flag, Number, NumberOrNone, Parties, Text};
 use crate::members::{Object, write_object};
@@ -256,7 +258,8 @@ fn write_refusal(writer: &mut Writer, refusal: Refusal) -> Result<(), AllocError
 /// Writes a refusal by its number, with the number of a line, where one is given.
 fn write_refused(writer: &mut Writer, code: &str, line: Option<u32>) -> Result<(), AllocError>
     ensures before { writer.new.before ≡ writer.old.before }
-    ensures added { Adds result writer.old writer.new (refused_at line code.now) }
+    ensures added { Adds result writer.old writer.new
+        (object_of (number_where (codes "line") line ++ (codes "refused", string code.now) ∷ [])) }
 {
     let line = NumberOrNone("line", line.map(u64::from));
     write_object(writer, &[line, Text("refused", code)])

@@ -19,8 +19,8 @@ texts_are before lines texts after are = absurd are
 -- what went out for an input that was answered whole
 served_texts : (bytes : List ℕ) (after : ⊤) (old new : Option (List ℕ)) → Served IsCanon tt bytes after old new → Appends old new (canon_of bytes)
 served_texts bytes after old new served =
-    let (texts, whole, are) = served.answered.replied in
-    rw (← texts_are tt (lines_from 0 (pieces bytes)) texts after are, ← whole) served.written
+    let (texts, whole, are) = served.2.replied in
+    rw (← texts_are tt (lines_from 0 (pieces bytes)) texts after are, ← whole) served.1
 
 -- the same of an input that may be known
 pub served_input : (input : Option (List ℕ)) (after : ⊤) (old new : Option (List ℕ))

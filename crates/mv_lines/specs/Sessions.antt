@@ -21,23 +21,18 @@ use Rattle.mv_format.specs.Requests.{read_line}
 abbrev pub Open : Type 0
 Open = Option State
 
--- what is open refuses the line, and nothing changes
-abbrev pub IsNotTaken : OpenFault → Open → Answered → Open → Type 0
-IsNotTaken fault before answered after = (answered ≡ NotTaken fault) × (after ≡ before)
-
--- what comes of a line that opens: C2 where something is open; H1 to H3, O1 to O4; else the system opens
-abbrev pub IsOpened : Open → Result (List (List (List ℕ))) OpenFault → Result Bounds OpenFault → Answered → Open → Type 0
-IsOpened (Some st) parties limits answered after = IsNotTaken AlreadyOpen (Some st) answered after
-IsOpened None (Err fault) limits answered after = IsNotTaken fault None answered after
-IsOpened None (Ok parties) (Err fault) answered after = IsNotTaken fault None answered after
-IsOpened None (Ok parties) (Ok limits) answered after =
-    (answered ≡ Opened (length parties)) × (after ≡ Some (opening parties limits))
+-- what comes of a line that opens, and what is open after it: C2 where something is open; H1 to H3, O1 to O4; else the system opens
+abbrev pub opened_by : Open → Result (List (List (List ℕ))) OpenFault → Result Bounds OpenFault → Answered × Open
+opened_by (Some st) parties limits = (NotTaken AlreadyOpen, Some st)
+opened_by None (Err fault) limits = (NotTaken fault, None)
+opened_by None (Ok parties) (Err fault) = (NotTaken fault, None)
+opened_by None (Ok parties) (Ok limits) = (Opened (length parties), Some (opening parties limits))
 
 -- what comes of what a line asks: of a step C1 where nothing is open, else a reply that the list machine allows
 abbrev pub IsRequestTaken : Open → Request → Answered → Open → Type 0
 IsRequestTaken before (requests.Open parties submissions uplink window wire) answered after =
-    IsOpened before (map_err Parties (parties_of parties)) (map_err Limits (limits_of window wire uplink submissions)) answered after
-IsRequestTaken None (requests.Step step) answered after = IsNotTaken NotOpen None answered after
+    (answered, after) ≡ opened_by before (map_err Parties (parties_of parties)) (map_err Limits (limits_of window wire uplink submissions))
+IsRequestTaken None (requests.Step step) answered after = (answered ≡ NotTaken NotOpen) × (after ≡ None)
 IsRequestTaken (Some old) (requests.Step step) answered after =
     (reply : Reply) × (new : State) × Allows old step reply new × (answered ≡ Stepped step reply) × (after ≡ Some new)
 

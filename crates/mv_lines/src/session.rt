@@ -5,7 +5,7 @@ ghost use Rattle.std.specs.Mem.{manually_drop_value};
 ghost use Rattle.std.specs.Option.{option_copied};
 ghost use Rattle.mv_hub.specs.Parties.{parties_of};
 ghost use Rattle.mv_json.specs.Reading.{map_err};
-ghost use Rattle.mv_lines.specs.Sessions.{IsOpened, IsRequestTaken, IsTaken, IsReply};
+ghost use Rattle.mv_lines.specs.Sessions.{opened_by, IsRequestTaken, IsTaken, IsReply};
 
 use json::Scratch;
 use mv_engine::Answering;
@@ -115,7 +115,7 @@ impl Session {
         limits: Result<Limits, OpenFault>,
     ) -> Result<Answered, AllocError>
         ensures ok { IfOk result (λ answered.
-            IsOpened self.old (map_err OpenFault.Parties (parties_of lists)) limits answered self.new) }
+            (answered, self.new) ≡ opened_by self.old (map_err OpenFault.Parties (parties_of lists)) limits) }
         ensures err { IfErr result (λ _. self.new ≡ self.old) }
     {
         if self.world.is_some() {

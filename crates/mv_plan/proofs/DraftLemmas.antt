@@ -1,5 +1,5 @@
 -- Lemmas on plans that grow.
-use Rattle.std.proofs.Common.{◌≡◌, ℕ, ◌<◌, List, [], ◌∷◌, ◌++◌, ap, arith, length, slice_index_or, slice_set, rules}
+use Rattle.std.proofs.Common.{◌≡◌, ℕ, ◌<◌, List, [], ◌∷◌, ◌++◌, ap, arith, length, map, slice_index_or, slice_set, rules}
 use Rattle.std.proofs.Math.Seq.{map-set_same}
 use Rattle.std.specs.declared.alloc.Global.{Global}
 use Rattle.std.specs.declared.vec.Vec.{Vec}
@@ -8,11 +8,15 @@ use Rattle.mv_message.specs.declared.message.Message.{Message}
 use Rattle.mv_party.specs.Site.{answers_in}
 use Rattle.mv_party.proofs.CallerLemmas.{answers_in-append}
 use Rattle.mv_machine.specs.Limits.{Bounds}
-use Rattle.mv_plan.specs.Drafts.{Parts, lists_of, parts_in, CanRun, with_message}
+use Rattle.mv_plan.specs.Drafts.{Parts, parts_in, CanRun, with_message}
 
 -- the messages of a list
 abbrev pub items_of : Vec Message Global → List Message
 items_of list = list.items
+
+-- those of lists
+abbrev pub lists_of : List (Vec Message Global) → List (List Message)
+lists_of lists = map (λ (list : Vec Message Global). list.items) lists
 
 -- the lists of a plan with one more message
 pub lists_more : (lists : List (Vec Message Global)) (party : ℕ) (message : Message) (was now : Vec Message Global) → party < length lists

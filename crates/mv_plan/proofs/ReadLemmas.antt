@@ -25,9 +25,8 @@ planned_still bytes refusal draft planned line some same = grind arith
 are_planned : (before : Planned) (lines : List Line) (texts : List (Option (List ℕ))) (after : Planned) → AreReplies IsPlanned before lines texts after
     → after ≡ fold plan_line before (map (λ line. line.bytes) lines)
 are_planned before [] [] after same = same
-are_planned before [] (text ∷ texts) after none = absurd none
-are_planned before (line ∷ lines) [] after none = absurd none
 are_planned before (line ∷ lines) (text ∷ texts) after (between, one, rest) = cc (are_planned between lines texts after rest)
+are_planned before lines texts after none = absurd none
 
 -- an input that was answered whole was read
 pub read_whole : (input : Option (List ℕ)) (before after planned : Planned) (old new : Option (List ℕ)) → before ≡ Ok None → planned ≡ after

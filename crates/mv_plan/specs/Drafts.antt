@@ -11,13 +11,9 @@ pub record Parts : Type 0 where
   pub limits : Bounds
   pub work : List (List Message)  -- what each party is to submit, in order
 
--- what each party is to submit, by the lists that are kept of it
-abbrev pub lists_of : List (Vec Message Global) → List (List Message)
-lists_of work = map (λ (list : Vec Message Global). list.items) work
-
 -- the parts of a plan of these parties and limits, with a list for each party
 abbrev pub parts_in : List (List (List ℕ)) → Bounds → List (Vec Message Global) → Parts
-parts_in parties limits work = record { parties = parties; limits = limits; work = lists_of work }
+parts_in parties limits work = record { parties = parties; limits = limits; work = map (λ (list : Vec Message Global). list.items) work }
 
 -- A plan can be run: it has a list for each party, and no answer is planned.
 pub record CanRun (parts : Parts) : Type 0 where

@@ -9,7 +9,6 @@ use Rattle.mv_machine.specs.Limits.{Bounds, limits_of}
 use Rattle.mv_machine.specs.declared.reply.Refusal.TheVariants.{Party, NotYours}
 use Rattle.mv_machine.specs.declared.step.Step.{Step}
 use Rattle.mv_machine.specs.declared.step.Step.TheVariants.{Submit, Verify}
-use Rattle.mv_format.specs.declared.line_fault.LineFault.{LineFault}
 use Rattle.mv_format.specs.declared.open_fault.OpenFault.{OpenFault}
 use Rattle.mv_format.specs.declared.open_fault.OpenFault.TheVariants.{NotOpen, AlreadyOpen, Parties, Limits}
 use Rattle.mv_plan.specs.declared.planned.Planned.{Planned as HeldPlan}
@@ -18,7 +17,7 @@ use Rattle.mv_format.specs.declared.request.Request.{Request}
 use Rattle.mv_format.specs.declared.request.Request.TheVariants as requests
 use Rattle.mv_plan.specs.Drafts.{Parts, new_parts, with_message}
 use Rattle.mv_engine.specs.Lines.{Line}
-use Rattle.mv_format.specs.Openings.{map_err, code_of}
+use Rattle.mv_format.specs.Openings.{◌and_then◌, map_err, code_of}
 use Rattle.mv_format.specs.ReplyLines.{refused, line_fault_value, refusal_value}
 use Rattle.mv_format.specs.Requests.{read_line}
 
@@ -65,15 +64,10 @@ plan_request None (requests.Step step) = refuses (refused (code_of NotOpen))
 plan_request (Some plan) (requests.Open parties submissions uplink window wire) = refuses (refused (code_of AlreadyOpen))
 plan_request (Some plan) (requests.Step step) = plan_step plan step
 
--- the plan behind what reading a line gave
-abbrev pub plan_read : Option Parts → Result Request LineFault → Planned
-plan_read plan (Err fault) = refuses (line_fault_value fault)
-plan_read plan (Ok request) = plan_request plan request
-
--- the plan behind a line; behind one that is refused nothing changes
+-- the plan behind a line, or the text of the refusal of what reading it gave; behind a line that is refused nothing changes
 abbrev pub plan_line : Planned → List ℕ → Planned
-plan_line (Err text) line = Err text
-plan_line (Ok plan) line = plan_read plan (read_line line)
+plan_line planned line =
+    planned and_then λ plan. map_err (λ fault. compact_text (line_fault_value fault)) (read_line line) and_then plan_request plan
 
 -- the plan after the line is this; nothing is asked of a reply
 abbrev pub IsPlanned : Planned → Line → Option (List ℕ) → Planned → Type 0

@@ -1,8 +1,7 @@
 //! A plan that grows by a message at a time.
 
-ghost use Rattle.std.specs.Prelude.{◌≡◌, ◌<◌, ◌∷◌, [], length, replicate, nat_lt, IfOk, OnOk, OnErr};
+ghost use Rattle.std.specs.Prelude.{◌≡◌, ◌<◌, ◌∷◌, [], length, map, replicate, nat_lt, IfOk, OnOk, OnErr};
 ghost use Rattle.mv_party.specs.Site.{answers_in};
-ghost use Rattle.mv_plan.specs.Drafts.{lists_of};
 
 use mv_hub::Parties;
 use mv_machine::Limits;
@@ -75,7 +74,7 @@ impl Draft {
 
 /// So many lists of nothing.
 fn empty_lists(alloc: Global, count: u32) -> Result<Vec<Vec<Message>>, AllocError>
-    ensures { IfOk result (λ lists. lists_of lists.items ≡ replicate count []) }
+    ensures { IfOk result (λ lists. map (λ list. list.items) lists.items ≡ replicate count []) }
 {
     let mut lists = Vec::with_capacity(alloc, count as usize)?;
     for _ in 0..count {

@@ -1,5 +1,5 @@
 -- The command line of the program, the words that it takes, and what they ask for.
-use Rattle.std.specs.Prelude.{◌≡◌, ◌≢◌, ◌<◌, ◌^◌, ◌⊎◌, ℕ, Bool, List, [], ◌∷◌, ◌++◌, codes, false, true, fold, Some, if◌then◌else◌, length, slice_get}
+use Rattle.std.specs.Prelude.{◌≡◌, ◌≢◌, ◌<◌, ◌^◌, ◌⊎◌, ℕ, List, [], ◌∷◌, ◌++◌, codes, true, fold, Some, length, slice_get}
 use Rattle.std.specs.List.{AllByRecursion}
 use Rattle.std.specs.Str.Parse.{IsNumeral, digits_value, without_leading_plus}
 use Rattle.clap.specs.Lexer.{usize_max}
@@ -22,22 +22,17 @@ mvhub =
 abbrev pub flag_rule : List ℕ → Rule
 flag_rule name = record (new_rule name) { long = Some name; action = Some SetTrue }
 
--- the option of `work`, which is required: a number of 32 bits
-abbrev pub turns_rule : Rule
-turns_rule = record (new_rule (codes "turns")) {
-  long = Some (codes "turns");
-  value_names = 1;
-  parser = Some (Unsigned 0 4294967295);
-  required = true;
-}
+-- an option or a word of this name that is required, with a value
+abbrev pub required_rule : List ℕ → Rule
+required_rule name = record (new_rule name) { value_names = 1; required = true }
 
--- the words of `explain`, which are required: one or more
+-- the option of `work`: a number of 32 bits
+abbrev pub turns_rule : Rule
+turns_rule = record (required_rule (codes "turns")) { long = Some (codes "turns"); parser = Some (Unsigned 0 4294967295) }
+
+-- the words of `explain`: one or more
 abbrev pub code_rule : Rule
-code_rule = record (new_rule (codes "code")) {
-  range = Some (record { start_inclusive = 1; end_inclusive = usize_max });
-  value_names = 1;
-  required = true;
-}
+code_rule = record (required_rule (codes "code")) { range = Some (record { start_inclusive = 1; end_inclusive = usize_max }) }
 
 -- the command line: `mvhub` with these six subcommands, of which four have an option or words
 abbrev pub command_line : App
@@ -47,22 +42,18 @@ command_line = fold with_subcommand mvhub (
     ∷ (with_rule (new_app (codes "explain")) code_rule).top ∷ []
     )
 
--- whether an option was given that has no value
-abbrev pub HasFlag : List ℕ → Bool → List Row → Type 0
-HasFlag flag is_given rows = one_of flag rows ≡ Some (if is_given then codes "true" else codes "false")
-
 -- the text is decimal digits, in front of which one plus may stand and no minus, and they write this number, which is one of 32 bits
 abbrev pub WritesTurns : ℕ → List ℕ → Type 0
 WritesTurns turns text = IsNumeral 10 (without_leading_plus text) × (digits_value 10 (without_leading_plus text) ≡ turns) × (turns < 2 ^ 32)
 
--- a subcommand of this name, with these matches, is for it
+-- a subcommand of this name, with these matches, is for it; an option that has no value is matched by `true` or `false`
 abbrev pub IsFor : Task → List ℕ → List Row → Type 0
-IsFor tasks.Steps name rows = (name ≡ codes "steps") × HasFlag (codes "strict") false rows
-IsFor tasks.Strict name rows = (name ≡ codes "steps") × HasFlag (codes "strict") true rows
+IsFor tasks.Steps name rows = (name ≡ codes "steps") × (one_of (codes "strict") rows ≡ Some (codes "false"))
+IsFor tasks.Strict name rows = (name ≡ codes "steps") × (one_of (codes "strict") rows ≡ Some (codes "true"))
 IsFor tasks.Trail name rows = name ≡ codes "trail"
 IsFor tasks.Show name rows = name ≡ codes "show"
-IsFor tasks.Canon name rows = (name ≡ codes "canon") × HasFlag (codes "check") false rows
-IsFor tasks.Check name rows = (name ≡ codes "canon") × HasFlag (codes "check") true rows
+IsFor tasks.Canon name rows = (name ≡ codes "canon") × (one_of (codes "check") rows ≡ Some (codes "false"))
+IsFor tasks.Check name rows = (name ≡ codes "canon") × (one_of (codes "check") rows ≡ Some (codes "true"))
 IsFor (tasks.Work turns) name rows = (name ≡ codes "work") × (text : List ℕ) × (one_of (codes "turns") rows ≡ Some text) × WritesTurns turns text
 IsFor (tasks.Explain words) name rows = (name ≡ codes "explain") × (all_of (codes "code") rows ≡ Some words)
 

@@ -4,7 +4,7 @@ ghost use Rattle.std.specs.Prelude.{◌≡◌, ℕ, List, [], false, true, Match
 ghost use Rattle.clap.specs.Words.{all_of, fault_of, FailsBy, found_of, one_of, Row, rows_of, subcommand_of, subcommand_rows_of};
 ghost use Rattle.clap.specs.Values.{kind_of};
 ghost use Rattle.clap.specs.declared.error.kind.ErrorKind.TheVariants.{OutOfMemory};
-ghost use Rattle.mv_words.specs.Words.{command_line, AsksFor, HasFlag, IsFor, WritesTurns};
+ghost use Rattle.mv_words.specs.Words.{command_line, AsksFor, IsFor, WritesTurns};
 ghost use Rattle.mv_words.specs.declared.task.Task.{Task as Asked};
 
 use crate::words::command_line;
@@ -122,8 +122,8 @@ fn task_by<'a>(
 /// Whether an option was given that has no value.
 #[tactic(auto, using(crate::proofs::ParseLemmas::text_given))]
 fn is_given(given: &ArgMatches<'_>, flag: &str) -> bool
-    ensures given { HasFlag flag.now true (rows_of (found_of given.now)) → result ≡ true }
-    ensures absent { HasFlag flag.now false (rows_of (found_of given.now)) → result ≡ false }
+    ensures given { one_of flag.now (rows_of (found_of given.now)) ≡ Some (codes "true") → result ≡ true }
+    ensures absent { one_of flag.now (rows_of (found_of given.now)) ≡ Some (codes "false") → result ≡ false }
 {
     given.get_flag(flag)
 }

@@ -1,7 +1,7 @@
 //! The command line in the words of its parser.
 
 ghost use Rattle.std.specs.Prelude.{◌≡◌, IfOk, false};
-ghost use Rattle.clap.specs.Words.{Rule, app_of, new_app, rule_of, shape_of, with_rule};
+ghost use Rattle.clap.specs.Words.{Rule, app_of, new_app, rule_of, shape_of, with_rule, with_subcommand};
 ghost use Rattle.clap.specs.declared.builder.command.Command.TheViews.{out-Command as fields_of};
 ghost use Rattle.mv_words.specs.Words.{code_rule, command_line, flag_rule, mvhub, turns_rule};
 
@@ -16,13 +16,34 @@ use std::alloc::{AllocError, Global};
 pub fn command_line<'a>(alloc: Global) -> Result<Command<'a>, AllocError>
     ensures { IfOk result (λ line. app_of line ≡ command_line) }
 {
-    program(alloc)
-        .subcommand(taking(alloc, "steps", STEPS, flag(alloc, "strict", STRICT))?)?
-        .subcommand(told(alloc, "trail", TRAIL))?
-        .subcommand(told(alloc, "show", SHOW))?
-        .subcommand(taking(alloc, "canon", CANON, flag(alloc, "check", CHECK))?)?
-        .subcommand(taking(alloc, "work", WORK, turns(alloc))?)?
-        .subcommand(taking(alloc, "explain", EXPLAIN, codes(alloc))?)
+    let line = with_taking(
+        alloc,
+        program(alloc),
+        "steps",
+        STEPS,
+        flag(alloc, "strict", STRICT),
+    )?;
+    let line = line.subcommand(told(alloc, "trail", TRAIL))?;
+    let line = line.subcommand(told(alloc, "show", SHOW))?;
+    let line = with_taking(alloc, line, "canon", CANON, flag(alloc, "check", CHECK))?;
+    let line = with_taking(alloc, line, "work", WORK, turns(alloc))?;
+    with_taking(alloc, line, "explain", EXPLAIN, codes(alloc))
+}
+
+/// The command line with one command more, which has this name and takes an argument.
+fn with_taking<'a>(
+    alloc: Global,
+    line: Command<'a>,
+    name: &'a str,
+    help: Help,
+    arg: Arg<'a>,
+) -> Result<Command<'a>, AllocError>
+    requires { arg.global ≡ false }
+    ensures { (rule : Rule) → rule_of arg.entry ≡ rule
+        → IfOk result (λ new. app_of new ≡ with_subcommand (app_of line.entry) (with_rule (new_app name.entry.now) rule).top) }
+{
+    let command = taking(alloc, name, help, arg)?;
+    line.subcommand(command)
 }
 
 /// The program, with no subcommand yet.

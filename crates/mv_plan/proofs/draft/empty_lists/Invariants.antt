@@ -1,6 +1,6 @@
 use Rattle.std.proofs.Common.{◌≡◌, ◌≤◌, [], replicate}
 use Rattle.std.specs.Vec.{vec_capacity}
-use Rattle.mv_plan.specs.Drafts.{lists_of}
+use Rattle.mv_plan.proofs.DraftLemmas.{lists_of}
 use Rattle.mv_plan.proofs.draft.empty_lists.Given as goal
 
 -- the lists so far are empty, and there is room for the others

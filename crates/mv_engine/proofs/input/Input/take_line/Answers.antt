@@ -1,6 +1,6 @@
-use Rattle.std.proofs.Common.{arith, refl, [], ◌∷◌}
-use Rattle.mv_engine.proofs.Words.{common_steps, err_from_is_err_and, Memory}
-use Rattle.mv_engine.proofs.InputLemmas.{none_added, part_stopped, stopped_in, line_taken}
+use Rattle.std.proofs.Common.{arith, refl, []}
+use Rattle.mv_engine.proofs.Words.{common_steps, err_from_is_err_and}
+use Rattle.mv_engine.proofs.InputLemmas.{none_added, none_may_follow, part_unanswered, stopped_in, line_taken}
 use Rattle.mv_engine.proofs.input.Input.take_line.Goals as goal
 
 -- the line may not be so long, or no line may follow
@@ -11,13 +11,13 @@ returns-in_err-check_part-clause-err g c =
 
 -- no line may follow
 pub returns-then-self-eq-LINES_LIMIT-clause-err : goal.returns-then-self-eq-LINES_LIMIT-clause-err
-returns-then-self-eq-LINES_LIMIT-clause-err g c = grind (arith, common_steps)
+returns-then-self-eq-LINES_LIMIT-clause-err g c = grind (arith, common_steps, none_may_follow)
 
 -- the line got no reply
 pub returns-in_err-answer_line-clause-err : goal.returns-in_err-answer_line-clause-err
 returns-in_err-answer_line-clause-err g c =
     let p = err_from_is_err_and c.from_residual-in_err-answer_line.result c.from_residual-in_err-answer_line.ensures.1 in
-    rw (p.1, p.2, c.in_err-answer_line.ensures.fault) ([], none_added _ _ c.in_err-answer_line.ensures.err, grind (arith, part_stopped))
+    rw (p.1, p.2, c.in_err-answer_line.ensures.fault) ([], none_added _ _ c.in_err-answer_line.ensures.err, grind (arith, part_unanswered))
 
 -- the line is answered
 pub returns-clause-ok : goal.returns-clause-ok

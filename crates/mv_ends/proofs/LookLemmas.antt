@@ -1,8 +1,7 @@
 -- What is seen of the ends beside one another.
-use Rattle.std.proofs.Common.{◌≡◌, ◌<◌, ℕ, List, length, map, get_or, refl, sym, subst, arith, All}
-use Rattle.mv_ends.proofs.Words.{nat_tests, length-map, IsPrefix, Item, Frame, IsFrameOf, accepted, accepted_front, items_from, All-front, RepoEnd, HubSeat, repo_seat, IsSeatOf, AreSeatsOf}
+use Rattle.std.proofs.Common.{◌≡◌, ◌<◌, ℕ, List, length, get_or, sym, ap, subst, All}
+use Rattle.mv_ends.proofs.Words.{IsPrefix, Item, Frame, IsFrameOf, accepted, accepted_front, items_from, All-front, HubEnd, RepoEnd, HubSeat, SiteState, hub_seat, repo_seat, IsSeatOf, AreEnds}
 use Rattle.mv_repository.specs.declared.entry.LogEntry.{LogEntry}
-use Rattle.mv_ends.proofs.RingLemmas.{shown_at}
 
 -- what was applied is a front of each list whose frames were put, where what was taken is a front of what was put
 pub applied_front : (log : List LogEntry) (from : ℕ) (items : List Item) (taken put : List Frame) → accepted taken ≡ items_from log from
@@ -12,7 +11,10 @@ applied_front log from items taken put seen front valid =
     subst (λ l. IsPrefix l items) seen (found.0, sym found.1)
 
 -- one of the repositories' ends is that of its party
-pub seat_of : (hub : HubSeat) (repos : List RepoEnd) (party : ℕ) (repo : RepoEnd) → AreSeatsOf hub (map repo_seat repos) → party < length repos → repo ≡ get_or repos party repo
-    → IsSeatOf hub party (repo_seat repo)
-seat_of hub repos party repo ends below here =
-    grind (arith, nat_tests, length-map, shown_at repos party repo repo below here repo_seat (map repo_seat repos) refl (repo_seat repo))
+pub seat_of : (hub : HubEnd) (repos : List RepoEnd) (party : ℕ) (repo : RepoEnd) → AreEnds hub repos → party < length repos → repo ≡ get_or repos party repo
+    → IsSeatOf (hub_seat hub) party (repo_seat repo)
+seat_of hub repos party repo ends below here = subst (λ it. IsSeatOf (hub_seat hub) party (repo_seat it)) (sym here) (ends.seats party repo below)
+
+-- that its seat is that of a party says of how many parties it knows
+pub count_seated : (hub : HubSeat) (party : ℕ) (repo : RepoEnd) → IsSeatOf hub party (repo_seat repo) → repo.site.parties ≡ length hub.parties
+count_seated hub party repo seat = ap (λ (site : SiteState). site.parties) seat.site

@@ -1,7 +1,7 @@
 -- What an outcome shows of its ends, and that the ends of one opening make a lawful one.
 use Rattle.std.proofs.lemmas.Option.{gets}
-use Rattle.std.proofs.Common.{◌≡◌, ◌<◌, ℕ, zero, suc, List, [], ◌∷◌, length, get_or, slice_index_or, map, set, ◌+◌, inl, inr, sym, ◌∙◌, refl, subst, arith, ltb-true, IsTrue}
-use Rattle.mv_ends.proofs.Words.{nat_tests, length-map, cases_lt, IsSquare, square-replicate, new_site, State, is_party, site_of, opening, IsLawful, IsLawfulAt, IsLawfulRecord, IsSiteAt, IsWellFormed, HeadlineHolds, headline, opening-sound, HubEnd, HubSeat, RepoEnd, RepoSeat, SameHubEnd, IsUnchanged, hub_seat, repo_seat, SameRepoEnd, IsRepoUnchanged, IsSeatOf, AreEnds, sites_of, state_of, IsOutcome}
+use Rattle.std.proofs.Common.{◌≡◌, ◌<◌, ℕ, zero, suc, List, [], ◌∷◌, length, get_or, slice_index_or, set, ◌+◌, inl, inr, sym, ◌∙◌, refl, subst, arith, ltb-true, IsTrue}
+use Rattle.mv_ends.proofs.Words.{nat_tests, length-map, cases_lt, IsSquare, square-replicate, new_site, State, is_party, site_of, opened_site, opening, IsLawful, IsLawfulAt, IsLawfulRecord, IsWellFormed, HeadlineHolds, headline, opening-sound, HubEnd, HubSeat, RepoEnd, SameHubEnd, IsUnchanged, hub_seat, repo_seat, SameRepoEnd, IsRepoUnchanged, IsSeatOf, AreEnds, sites_of, state_of, IsOutcome}
 use Rattle.mv_ends.proofs.CallerLemmas.{ends_kept, same_but_one}
 use Rattle.mv_ends.proofs.RingLemmas.{shown_at, shows_same}
 
@@ -44,18 +44,15 @@ gathering_more st hub next_hub repos k old new was below here same_hub unchanged
     }
 
 -- the party of an end is that of its seat
-site_seated : (hub : HubSeat) (party : ℕ) (repos : List RepoEnd) (place : ℕ) → place < length repos → ((absent : RepoSeat) → IsSeatOf hub party (get_or (map repo_seat repos) place absent))
-    → IsSiteAt party (length hub.parties) hub.limits.submissions (get_or (sites_of repos) place (new_site 0 0 0))
+site_seated : (hub : HubSeat) (party : ℕ) (repos : List RepoEnd) (place : ℕ) → place < length repos → ((absent : RepoEnd) → IsSeatOf hub party (repo_seat (get_or repos place absent)))
+    → opened_site (get_or (sites_of repos) place (new_site 0 0 0)) ≡ new_site party (length hub.parties) hub.limits.submissions
 site_seated hub party [] place below seat = absurd (omega (arith, below))
-site_seated hub party (repo ∷ repos) zero below seat = assumption (seat (repo_seat repo))
+site_seated hub party (repo ∷ repos) zero below seat = (seat repo).site
 site_seated hub party (repo ∷ repos) (suc place) below seat = site_seated hub party repos place (omega (arith, below)) seat
 
 -- ends of one opening make an outcome, once all parties were found lawful
 module _ (st : State) (hub : HubEnd) (repos : List RepoEnd) (found : ℕ) (was : IsGathering st hub repos found) (all : found ≡ length hub.hub.parties)
     (square : IsSquare (length st.hub.parties) st.hub.sent) (lawful : IsLawfulRecord (length hub.hub.parties) hub.hub.entries) where
-  sites_each : length (sites_of repos) ≡ found
-  sites_each = length-map repos (λ (repo : RepoEnd). repo.site) ∙ sym (length-map repos repo_seat) ∙ was.ends.each ∙ sym all
-
   each : (party : ℕ) → party < length hub.hub.parties → IsLawfulAt hub.hub party (get_or (sites_of repos) party (new_site 0 0 0))
   each party below = was.each party (omega arith)
 
@@ -64,8 +61,8 @@ module _ (st : State) (hub : HubEnd) (repos : List RepoEnd) (found : ℕ) (was :
     ends = was.ends;
     well_formed = record {
       window = hub.window;
-      sites_each = sites_each ∙ all;
-      sites = λ party below. site_seated (hub_seat hub) party repos party (omega (arith, below, all, sites_each, length-map repos (λ (repo : RepoEnd). repo.site))) (λ absent. was.ends.ends party absent (omega (arith, below, was.ends.each)));
+      sites_each = length-map repos (λ (repo : RepoEnd). repo.site) ∙ was.ends.each;
+      sites = λ party below. let there : party < length repos = omega (arith, below, was.ends.each) in site_seated (hub_seat hub) party repos party there (λ absent. was.ends.seats party absent there);
       sent_each = subst (λ (it : State). IsSquare (length it.hub.parties) it.hub.sent) (sym was.shows) square;
       wires_each = square-replicate (length hub.hub.parties) [];
     };

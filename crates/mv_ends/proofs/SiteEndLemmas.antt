@@ -1,6 +1,6 @@
 -- What a repository's end keeps as it takes frames.
-use Rattle.std.proofs.Common.{◌≡◌, ◌<◌, ℕ, List, [], ◌∷◌, ◌++◌, length, arith, true, false, eqb, append-nil, Option, Err, option_to_list}
-use Rattle.mv_ends.proofs.Words.{nat_tests, get_or-set_same, get_or-set_other, sent, Message, Item, Frame, accepted, one_more, items_from, SiteState, FailsBy, Taken, apply_fault, with_taken, Submitted, Refused, Memory, refusal_of, reply_to, RepoEnd, IsFront, with_item, answer_by, stands_to, AreAccepted, is_uplink_full, IsRepoUnchanged, Submits, TakesFrame, Applies}
+use Rattle.std.proofs.Common.{◌≡◌, ◌<◌, ℕ, List, [], ◌∷◌, ◌++◌, length, arith, true, false, eqb, append-nil, drop, refl, subst, sym, Option, Err}
+use Rattle.mv_ends.proofs.Words.{nat_tests, get_or-set_same, get_or-set_other, sent, Message, Item, Frame, accepted, one_more, items_from, SiteState, FailsBy, Taken, apply_fault, with_taken, Submitted, Refused, Memory, refusal_of, reply_to, RepoEnd, IsFront, with_item, stands_to, AreAccepted, is_full, IsRepoUnchanged, Submits, TakesFrame, Applies}
 use Rattle.mv_link.specs.declared.incoming.Look.{Look}
 use Rattle.mv_link.specs.declared.incoming.Look.TheVariants as look
 use Rattle.mv_party.specs.declared.fault.SiteFault.{SiteFault}
@@ -20,7 +20,7 @@ memory_told fault is = grind (arith, nat_tests)
 
 -- where the party refuses a frame, no frame was taken
 pub apply_refused : (from : ℕ) (old new : RepoEnd) (frame : Frame) (fault : SiteFault) → IsRepoUnchanged old new
-    → IsFront new.inlets from frame → refusal_of fault ≡ option_map_or refusal_of (apply_fault (is_uplink_full new) old.site from frame.item (stands_to old.site from frame)) Memory
+    → IsFront new.inlets from frame → refusal_of fault ≡ option_map_or refusal_of (apply_fault (is_full new.uplink) old.site from frame.item (stands_to old.site from frame)) Memory
     → (refusal_of fault ≡ Memory → stands_to old.site from frame ≡ look.Next) → Applies from old new (Refused (refusal_of fault))
 apply_refused from old new frame fault unchanged front why next = grind (arith, nat_tests)
 
@@ -28,16 +28,23 @@ apply_refused from old new frame fault unchanged front why next = grind (arith, 
 pub apply_taken : (from number : ℕ) (old new : RepoEnd) (taken : Taken) → TakesFrame from old new (reply_to number taken) → Applies from old new (reply_to number taken)
 apply_taken from number old new taken takes = grind (arith, nat_tests)
 
--- what the party submitted once it took a frame
-pub submitted_by : (site : SiteState) (sender : ℕ) (item : Item) (stands : Look)
-    → (with_taken site sender item stands).submissions ≡ site.submissions ++ option_to_list (answer_by site sender item stands)
-submitted_by site sender item stands = grind (arith, nat_tests, append-nil)
+-- a party that takes a frame that is not the next submits nothing more
+pub none_more : (site : SiteState) (sender : ℕ) (item : Item) (stands : Look) → (stands ≡ look.Next → ⊥) → site.submissions ++ [] ≡ (with_taken site sender item stands).submissions
+none_more site sender item stands other = grind (arith, nat_tests, append-nil)
+
+drop-front : {A : Type 0} (xs ys : List A) → drop (length xs) (xs ++ ys) ≡ ys
+drop-front [] ys = refl
+drop-front (x ∷ xs) ys = drop-front xs ys
+
+-- what was submitted more stands behind what was submitted
+pub more_submitted : (old more new : List Message) → old ++ more ≡ new → more ≡ drop (length old) new
+more_submitted old more new is = subst (λ l. more ≡ drop (length old) l) is (sym (drop-front old more))
 
 module _ (message : Message) (old looked new : RepoEnd) (site : looked.site ≡ old.site) (pushed : sent looked.uplink ≡ sent old.uplink)
     (inlets : looked.inlets.taken ≡ old.inlets.taken) where
   -- what is submitted at an end whose uplink was looked at is submitted at that end
   pub submitted_after : (k : ℕ) → Submits message looked new (Submitted k) → Submits message old new (Submitted k)
-  submitted_after k (puts, free) = grind (arith, nat_tests)
+  submitted_after k (puts, told, free) = grind (arith, nat_tests)
 
   -- and what is refused there is refused
   pub refused_after : (refusal : Refusal) → Submits message looked new (Refused refusal) → Submits message old new (Refused refusal)

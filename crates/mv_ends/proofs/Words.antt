@@ -1,10 +1,9 @@
 -- The names of the library, of the definitions, and of the crates below that several files take, passed on from one place. Declares nothing.
 pub use Rattle.mv_ends.specs.HubEnd.{HubSeat, IsUnchanged, Routes, SameHubEnd, hub_seat}
-pub use Rattle.mv_ends.specs.Opened.{AreLinks, AreOpened, opened_seat}
-pub use Rattle.mv_ends.specs.RepoEnd.{Applies, IsRepoUnchanged, RepoSeat, SameRepoEnd, Submits, TakesFrame, answer_by, is_uplink_full, repo_seat, stands_to}
-pub use Rattle.mv_ends.specs.Rings.{Inlet, IsFront, Outlet, each_row, inflow_of, ring_put, ring_taken, table_of, with_frame, with_item}
+pub use Rattle.mv_ends.specs.RepoEnd.{Applies, IsRepoUnchanged, SameRepoEnd, Submits, TakesFrame, repo_seat, stands_to}
+pub use Rattle.mv_ends.specs.Rings.{AreEmpty, AreLinks, Inlet, IsFront, Outlet, each_row, inflow_of, is_full, ring_put, ring_taken, table_of, with_frame, with_item}
 pub use Rattle.mv_ends.specs.Valid.{AreAccepted, AreOfLinks, AreWithin, TookAll}
-pub use Rattle.mv_ends.specs.Whole.{AreEnds, AreSeatsOf, IsOutcome, IsSeatOf, sites_of, state_of}
+pub use Rattle.mv_ends.specs.Whole.{AreEnds, IsOpened, IsOutcome, IsSeatOf, sites_of, state_of}
 pub use Rattle.mv_ends.specs.declared.hub_end.HubEnd.{HubEnd}
 pub use Rattle.mv_ends.specs.declared.repo_end.RepoEnd.{RepoEnd}
 pub use Rattle.mv_hub.specs.Hub.{HubState, close_fault, items_on, new_hub}
@@ -16,9 +15,9 @@ pub use Rattle.mv_link.specs.declared.item.Frame.{Frame}
 pub use Rattle.mv_link.specs.declared.item.Item.{Item}
 pub use Rattle.mv_machine.proofs.CallerLemmas.{All-front, headline, opening-sound, record-entered, slice_get-append, stamps_suffice}
 pub use Rattle.mv_machine.specs.Headline.{HeadlineHolds}
-pub use Rattle.mv_machine.specs.Lawful.{IsLawful, IsLawfulAt, IsLawfulRecord, IsSiteAt, IsWellFormed}
+pub use Rattle.mv_machine.specs.Lawful.{IsLawful, IsLawfulAt, IsLawfulRecord, IsWellFormed}
 pub use Rattle.mv_machine.specs.Replies.{refusal_of, reply_to, route_refusal_of}
-pub use Rattle.mv_machine.specs.State.{State, is_party, opening, site_of}
+pub use Rattle.mv_machine.specs.State.{State, is_party, opened_site, opening, site_of}
 pub use Rattle.mv_machine.specs.declared.reply.Refusal.TheVariants.{Memory}
 pub use Rattle.mv_machine.specs.declared.reply.Reply.TheVariants.{Refused, Submitted}
 pub use Rattle.mv_message.specs.declared.message.Message.{Message}
@@ -27,7 +26,7 @@ pub use Rattle.mv_pairs.specs.Pairs.{IsSquare, cell}
 pub use Rattle.mv_party.specs.Calls.{apply_fault, with_taken}
 pub use Rattle.mv_party.specs.Site.{IsLawfulParty, SiteState, new_site}
 pub use Rattle.mv_party.specs.declared.taken.Taken.{Taken}
-pub use Rattle.mv_repository.specs.Log.{items_from}
+pub use Rattle.mv_repository.specs.Repository.{items_from}
 pub use Rattle.rtrb.specs.Ring.{IsPair, SameConsumer, SameProducer, consumer_capacity, producer_capacity, received, sent}
 pub use Rattle.std.proofs.lemmas.Bool.Decides.{nat_tests}
 pub use Rattle.std.proofs.lemmas.Bool.{cases_lt}

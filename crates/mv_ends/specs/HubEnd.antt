@@ -1,10 +1,8 @@
 -- What a contract sees of the hub's end, and what its calls leave, by their replies.
-use Rattle.std.specs.Prelude.{◌≡◌, ◌⊎◌, ℕ, ◌+◌, ◌<◌, List, length, Option, Some, None, IsTrue}
-use Rattle.mv_ends.specs.Words.{Message, Frame, IsFrameOf, routed_count, sent_of, items_on, are_parties, relay_fault, repeat_fault, close_fault, with_routed, with_relayed, with_closed, Reply, Routed, Relayed, Repeated, Closed, Refused, Refusal, Party, UplinkEmpty, Busy, WireFull, Memory, Bounds, hub_refusal_of}
+use Rattle.std.specs.Prelude.{◌≡◌, ◌⊎◌, ℕ, ◌+◌, ◌<◌, List, length, Option, None, IsTrue}
+use Rattle.mv_ends.specs.Words.{Message, Frame, IsFrameOf, routed_count, sent_of, items_on, are_parties, relay_fault, repeat_fault, close_fault, with_routed, with_relayed, with_closed, Reply, Routed, Relayed, Repeated, Closed, Refused, Refusal, Party, UplinkEmpty, WireFull, Bounds, hub_refusal_of, route_refusal_of}
 use Rattle.mv_ends.specs.Refusals.{IsRefusedBy}
 use Rattle.mv_hub.specs.declared.fault.HubFault.{HubFault}
-use Rattle.mv_hub.specs.declared.fault.RouteFault.{RouteFault}
-use Rattle.mv_hub.specs.declared.fault.RouteFault.TheVariants as route
 use Rattle.mv_hub.specs.Targets.{reach}
 use Rattle.mv_hub.specs.Hub.{route_fault}
 use Rattle.mv_ends.specs.declared.hub_end.HubEnd.{HubEnd}
@@ -31,33 +29,31 @@ pub record IsUnchanged (old new : HubEnd) : Type 0 where
   pub taken : new.uplinks.taken ≡ old.uplinks.taken
   pub put : new.wires.put ≡ old.wires.put
 
--- The message was routed that was taken from the uplink: the record gained just that entry.
-pub record RoutesFront (from : ℕ) (old new : HubEnd) (k : ℕ) (reached : List ℕ) : Type 0 where
+-- The message was routed that was taken from the uplink: the record gained just that entry, and the reply says so.
+pub record RoutesFront (from : ℕ) (old new : HubEnd) (reply : Reply) : Type 0 where
   pub message : Message
   pub taken : new.uplinks.taken ≡ with_item old.uplinks.taken from message
   pub put : new.wires.put ≡ old.wires.put
   pub hub : new.hub ≡ with_routed old.hub from message
   pub free : route_fault old.hub from message ≡ None
-  pub number : k ≡ routed_count old.hub.entries from + 1
-  pub reach_is : reached ≡ reach old.hub.parties old.hub.entries from message
+  pub reply_is : reply ≡ Routed (routed_count old.hub.entries from + 1) (reach old.hub.parties old.hub.entries from message)
 
--- The message at the front of the uplink was looked at, since the party may have more routed, and this is why the hub does not route it.
-pub record SeesFront (from : ℕ) (old new : HubEnd) (fault : Option RouteFault) : Type 0 where
+-- The message at the front of the uplink was looked at, since the party may have more routed, and it is not routed: for the fault of the
+-- hub, or else for want of memory.
+pub record SeesFront (from : ℕ) (old new : HubEnd) (refusal : Refusal) : Type 0 where
   pub below : routed_count old.hub.entries from < old.limits.submissions
   pub message : Message
   pub front : IsFront new.uplinks from message
-  pub why : route_fault old.hub from message ≡ fault
+  pub why : IsRefusedBy route_refusal_of (route_fault old.hub from message) refusal
 
 -- What `route` leaves, by its reply: nothing waited on the uplink where the party may have more routed; a link that has no room has none
 -- for the message at the front of the uplink, and want of memory stands in place of its routing alone.
 abbrev pub Routes : ℕ → HubEnd → HubEnd → Reply → Type 0
-Routes from old new (Routed k reached) = RoutesFront from old new k reached
 Routes from old new (Refused Party) = IsUnchanged old new × (from < length old.hub.parties → ⊥)
 Routes from old new (Refused UplinkEmpty) = IsUnchanged old new × (from < length old.hub.parties)
     × (routed_count old.hub.entries from < old.limits.submissions → IsEmptyFrom new.uplinks from)
-Routes from old new (Refused (Busy to)) = IsUnchanged old new × SeesFront from old new (Some (route.Busy to))
-Routes from old new (Refused Memory) = IsUnchanged old new × SeesFront from old new None
-Routes from old new reply = ⊥
+Routes from old new (Refused refusal) = IsUnchanged old new × SeesFront from old new refusal
+Routes from old new reply = RoutesFront from old new reply
 
 -- a frame of a link, with this number, was put on its ring, and nothing else on any
 pub record PutsOf (from to number : ℕ) (old new : HubEnd) : Type 0 where
@@ -76,21 +72,18 @@ IsPutRefused old new from to fault refusal =
 
 -- what `relay` leaves, by its reply: the frame that is put is the next one
 abbrev pub Relays : ℕ → ℕ → HubEnd → HubEnd → Reply → Type 0
-Relays from to old new (Relayed number) = PutsOf from to number old new × (new.hub ≡ with_relayed old.hub from to)
-    × (number ≡ sent_of old.hub from to + 1) × (relay_fault old.hub from to ≡ None)
 Relays from to old new (Refused refusal) = IsUnchanged old new × IsPutRefused old new from to (relay_fault old.hub from to) refusal
-Relays from to old new reply = ⊥
+Relays from to old new reply = PutsOf from to (sent_of old.hub from to + 1) old new × (new.hub ≡ with_relayed old.hub from to)
+    × (reply ≡ Relayed (sent_of old.hub from to + 1)) × (relay_fault old.hub from to ≡ None)
 
 -- what `repeat` leaves, by its reply: the frame that is put is the one that was asked for
 abbrev pub Repeats : ℕ → ℕ → ℕ → HubEnd → HubEnd → Reply → Type 0
-Repeats from to number old new (Repeated again) =
-    PutsOf from to number old new × (new.hub ≡ old.hub) × (again ≡ number) × (repeat_fault old.hub from to number ≡ None)
 Repeats from to number old new (Refused refusal) = IsUnchanged old new × IsPutRefused old new from to (repeat_fault old.hub from to number) refusal
-Repeats from to number old new reply = ⊥
+Repeats from to number old new reply =
+    PutsOf from to number old new × (new.hub ≡ old.hub) × (reply ≡ Repeated number) × (repeat_fault old.hub from to number ≡ None)
 
 -- what `close` leaves, by its reply
 abbrev pub Closes : ℕ → ℕ → HubEnd → HubEnd → Reply → Type 0
-Closes from to old new Closed = (new.hub ≡ with_closed old.hub from to) × (new.uplinks.taken ≡ old.uplinks.taken)
-    × (new.wires.put ≡ old.wires.put) × (close_fault old.hub from to ≡ None)
 Closes from to old new (Refused refusal) = IsUnchanged old new × IsRefusedBy hub_refusal_of (close_fault old.hub from to) refusal
-Closes from to old new reply = ⊥
+Closes from to old new reply = (new.hub ≡ with_closed old.hub from to) × (new.uplinks.taken ≡ old.uplinks.taken)
+    × (new.wires.put ≡ old.wires.put) × (reply ≡ Closed) × (close_fault old.hub from to ≡ None)

@@ -14,10 +14,6 @@ AreSameRepos old new = map repo_seat new ≡ map repo_seat old
 abbrev pub IsSameItself : {A : Type 0} → (A → A → Type 0) → Type 0
 IsSameItself {A = A} IsSame = (it : A) → IsSame it it
 
--- what is the same at a second moment, and from there at a third, is the same at the third
-abbrev pub IsSameFurther : {A : Type 0} → (A → A → Type 0) → Type 0
-IsSameFurther {A = A} IsSame = (first second third : A) → IsSame first second → IsSame second third → IsSame first third
-
 -- where each end is the same as at first, and then one is called, each is the same as at first
 abbrev pub IsSameByOne : Type 0
 IsSameByOne = (first repos : List RepoEnd) (place : ℕ) (was now : RepoEnd) → AreSameRepos first repos → place < length repos

@@ -6,4 +6,3 @@ pub mod HubEnd
 pub mod RepoEnd
 pub mod Whole
 pub mod Laws
-pub mod Opened

@@ -1,37 +1,28 @@
 -- What a contract sees of a repository's end, and what its calls leave, by their replies.
-use Rattle.std.specs.Prelude.{◌≡◌, ℕ, ◌+◌, ◌<◌, [], ◌∷◌, ◌++◌, length, List, Bool, false, Option, None, option_to_list}
-use Rattle.mv_ends.specs.Words.{sent, Message, Frame, SiteState, entry_from, count_from, with_submission, Reply, Submitted, Known, Asked, Refused, Party, WireEmpty, Memory, refusal_of, reply_to}
+use Rattle.std.specs.Prelude.{◌≡◌, ℕ, ◌+◌, ◌<◌, [], ◌∷◌, ◌++◌, length, List, false, None, drop}
+use Rattle.mv_ends.specs.Words.{sent, Message, Frame, SiteState, count_from, with_submission, Reply, Submitted, Known, Asked, Refused, Party, WireEmpty, Memory, refusal_of, reply_to}
 use Rattle.mv_ends.specs.Refusals.{IsRefusedBy}
 use Rattle.mv_pack.specs.declared.key.PackKey.{PackKey}
 use Rattle.mv_message.specs.declared.message.Message.TheVariants.{Query}
-use Rattle.mv_link.specs.declared.item.Item.{Item}
 use Rattle.mv_link.specs.declared.incoming.Look.{Look}
 use Rattle.mv_link.specs.declared.incoming.Look.TheVariants.{Next}
 use Rattle.mv_link.specs.Receiving.{look_at}
 use Rattle.mv_repository.specs.declared.verdict.Local.TheVariants.{Known as KnownPack, Absent}
 use Rattle.mv_repository.specs.Verdict.{local_verdict}
 use Rattle.mv_party.specs.Calls.{ask_fault, submit_fault, apply_fault, taken_by, with_taken}
+use Rattle.mv_machine.specs.State.{opened_site}
 use Rattle.mv_ends.specs.declared.repo_end.RepoEnd.{RepoEnd}
-use Rattle.mv_repository.specs.Verdict.{answer_to}
 use Rattle.mv_ends.specs.Rings.{Ring, ring_put, is_full, IsEmptyFrom, IsFront, with_item}
 
--- What stays of a repository's end: its party, one of so many, how much it may submit, and the rings that it has ends of.
+-- What stays of a repository's end: its party, as it was when the system opened, and the rings that it has ends of.
 pub record RepoSeat : Type 0 where
-  pub party : ℕ
-  pub parties : ℕ
-  pub limit : ℕ
+  pub site : SiteState
   pub uplink : Ring
   pub inlets : List Ring
 
 -- what stays of this end
 abbrev pub repo_seat : RepoEnd → RepoSeat
-repo_seat end = record {
-  party = end.site.party;
-  parties = end.site.parties;
-  limit = end.site.limit;
-  uplink = ring_put end.uplink;
-  inlets = end.inlets.rings;
-}
+repo_seat end = record { site = opened_site end.site; uplink = ring_put end.uplink; inlets = end.inlets.rings }
 
 -- the same end of one opening, at two moments
 abbrev pub SameRepoEnd : RepoEnd → RepoEnd → Type 0
@@ -43,50 +34,40 @@ pub record IsRepoUnchanged (old new : RepoEnd) : Type 0 where
   pub pushed : sent new.uplink ≡ sent old.uplink
   pub taken : new.inlets.taken ≡ old.inlets.taken
 
--- the uplink was full when it was last looked at
-abbrev pub is_uplink_full : RepoEnd → Bool
-is_uplink_full end = is_full end.uplink
-
 -- The party submitted just this message, and just this was put on its uplink.
-pub record Puts (message : Message) (old new : RepoEnd) (number : ℕ) : Type 0 where
+pub record Puts (message : Message) (old new : RepoEnd) : Type 0 where
   pub site : new.site ≡ with_submission old.site message
   pub pushed : sent new.uplink ≡ sent old.uplink ++ message ∷ []
   pub taken : new.inlets.taken ≡ old.inlets.taken
-  pub numbered : number ≡ length old.site.submissions + 1
 
 -- what `submit` leaves, by its reply: a refusal is by whether the uplink was full, and where there is no fault for want of memory alone
 abbrev pub Submits : Message → RepoEnd → RepoEnd → Reply → Type 0
-Submits message old new (Submitted k) = Puts message old new k × (submit_fault false old.site message ≡ None)
-Submits message old new (Refused refusal) = IsRepoUnchanged old new × IsRefusedBy refusal_of (submit_fault (is_uplink_full new) old.site message) refusal
-Submits message old new reply = ⊥
+Submits message old new (Refused refusal) =
+    IsRepoUnchanged old new × IsRefusedBy refusal_of (submit_fault (is_full new.uplink) old.site message) refusal
+Submits message old new reply =
+    Puts message old new × (reply ≡ Submitted (length old.site.submissions + 1)) × (submit_fault false old.site message ≡ None)
 
 -- what `ask` leaves, by its reply
 abbrev pub Asks : PackKey → RepoEnd → RepoEnd → Reply → Type 0
-Asks key old new (Asked q) = Puts (Query key) old new q × (ask_fault false old.site ≡ None)
-Asks key old new (Refused refusal) = IsRepoUnchanged old new × IsRefusedBy refusal_of (ask_fault (is_uplink_full new) old.site) refusal
-Asks key old new reply = ⊥
+Asks key old new (Refused refusal) = IsRepoUnchanged old new × IsRefusedBy refusal_of (ask_fault (is_full new.uplink) old.site) refusal
+Asks key old new reply = Puts (Query key) old new × (reply ≡ Asked (length old.site.submissions + 1)) × (ask_fault false old.site ≡ None)
 
 -- what `verify` leaves, by its reply
 abbrev pub Verifies : PackKey → RepoEnd → RepoEnd → Reply → Type 0
 Verifies key old new (Known verdict) = IsRepoUnchanged old new × (local_verdict key old.site.log ≡ KnownPack verdict)
 Verifies key old new reply = Asks key old new reply × (local_verdict key old.site.log ≡ Absent)
 
--- the answer that goes on the uplink where a frame from a sender stands so, and bears this item
-abbrev pub answer_by : SiteState → ℕ → Item → Look → Option Message
-answer_by site sender item Next = answer_to site.log (entry_from sender item)
-answer_by site sender item stands = None
-
 -- how a frame from a sender stands to what a party applied of it
 abbrev pub stands_to : SiteState → ℕ → Frame → Look
 stands_to site sender frame = look_at (count_from site.log sender) frame.number
 
--- Just this frame was taken, from the link from a sender; the party took it, what it answers was put on its uplink, and the reply says what it
--- did with the frame.
+-- Just this frame was taken, from the link from a sender; the party took it, what it submitted more by that was put on its uplink, and the
+-- reply says what it did with the frame.
 pub record TakesFrame (from : ℕ) (old new : RepoEnd) (reply : Reply) : Type 0 where
   pub frame : Frame
   pub taken : new.inlets.taken ≡ with_item old.inlets.taken from frame
   pub site : new.site ≡ with_taken old.site from frame.item (stands_to old.site from frame)
-  pub pushed : sent new.uplink ≡ sent old.uplink ++ option_to_list (answer_by old.site from frame.item (stands_to old.site from frame))
+  pub pushed : sent new.uplink ≡ sent old.uplink ++ drop (length old.site.submissions) new.site.submissions
   pub reply_is : reply ≡ reply_to frame.number (taken_by old.site from frame.item (stands_to old.site from frame))
 
 -- What `apply` leaves, by its reply: no frame is taken where there is no such party, where the link was empty, and where the party
@@ -95,6 +76,6 @@ abbrev pub Applies : ℕ → RepoEnd → RepoEnd → Reply → Type 0
 Applies from old new (Refused Party) = IsRepoUnchanged old new × (from < old.site.parties → ⊥)
 Applies from old new (Refused WireEmpty) = IsRepoUnchanged old new × (from < old.site.parties) × IsEmptyFrom new.inlets from
 Applies from old new (Refused refusal) = IsRepoUnchanged old new × ((frame : Frame) × IsFront new.inlets from frame
-    × IsRefusedBy refusal_of (apply_fault (is_uplink_full new) old.site from frame.item (stands_to old.site from frame)) refusal
+    × IsRefusedBy refusal_of (apply_fault (is_full new.uplink) old.site from frame.item (stands_to old.site from frame)) refusal
     × (refusal ≡ Memory → stands_to old.site from frame ≡ Next))
 Applies from old new reply = TakesFrame from old new reply

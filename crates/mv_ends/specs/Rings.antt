@@ -1,6 +1,6 @@
 -- Rings, by what their two ends show of them.
 use Rattle.std.specs.Prelude.{◌≡◌, ◌==◌, ◌<◌, ℕ, List, [], ◌∷◌, ◌++◌, Bool, length, map, slice_index_or, slice_set}
-use Rattle.mv_ends.specs.Words.{IsPrefix, Global, Vec, sent, received, known_free, known_items, producer_capacity, consumer_capacity, cell, put, Frame}
+use Rattle.mv_ends.specs.Words.{All, IsPrefix, Global, Vec, sent, received, known_free, known_items, producer_capacity, consumer_capacity, cell, put, Frame}
 use denote.RawPtr.{Ptr}
 use Rattle.rtrb.specs.declared.producer.Producer.{Producer}
 use Rattle.rtrb.specs.declared.consumer.Consumer.{Consumer}
@@ -88,3 +88,12 @@ with_frame wires from to frame = put wires to from (cell wires to from [] ++ fra
 -- nothing was put on any ring, or taken from it
 abbrev pub AreEmpty : {A : Type 0} → List (List A) → Type 0
 AreEmpty lists = (from : ℕ) → slice_index_or lists from [] ≡ []
+
+-- the two ends of the links to one party from so many, which hold so many frames each and were not used yet
+pub record AreLinks (count room : ℕ) (row : List (Outlet Frame)) (inlets : Inflow Frame) : Type 0 where
+  pub wide : length row ≡ count
+  pub each : length inlets.taken ≡ count
+  pub rings : inlets.rings ≡ map ring_put row
+  pub size : All (λ (ring : Ring). ring.size ≡ room) inlets.rings
+  pub unused : AreEmpty (map sent row)
+  pub untaken : AreEmpty inlets.taken

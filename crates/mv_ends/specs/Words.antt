@@ -5,15 +5,15 @@ pub use Rattle.mv_link.specs.Frames.{IsFrameOf, accepted}
 pub use Rattle.mv_link.specs.declared.item.Frame.{Frame}
 pub use Rattle.mv_machine.specs.Lawful.{Fits, IsLawful, IsLawfulRecord, IsWellFormed}
 pub use Rattle.mv_machine.specs.Limits.{Bounds}
-pub use Rattle.mv_machine.specs.Replies.{hub_refusal_of, refusal_of, reply_to}
-pub use Rattle.mv_machine.specs.declared.reply.Refusal.TheVariants.{Busy, Memory, Party, UplinkEmpty, WireEmpty, WireFull}
+pub use Rattle.mv_machine.specs.Replies.{hub_refusal_of, refusal_of, reply_to, route_refusal_of}
+pub use Rattle.mv_machine.specs.declared.reply.Refusal.TheVariants.{Memory, Party, UplinkEmpty, WireEmpty, WireFull}
 pub use Rattle.mv_machine.specs.declared.reply.Refusal.{Refusal}
 pub use Rattle.mv_machine.specs.declared.reply.Reply.TheVariants.{Asked, Closed, Known, Refused, Relayed, Repeated, Routed, Submitted}
 pub use Rattle.mv_machine.specs.declared.reply.Reply.{Reply}
 pub use Rattle.mv_message.specs.declared.message.Message.{Message}
 pub use Rattle.mv_pairs.specs.Pairs.{cell, put}
-pub use Rattle.mv_party.specs.Site.{IsLawfulParty, SiteState, count_from, entry_from, new_site, with_submission}
-pub use Rattle.mv_repository.specs.Log.{items_from}
+pub use Rattle.mv_party.specs.Site.{IsLawfulParty, SiteState, count_from, new_site, with_submission}
+pub use Rattle.mv_repository.specs.Repository.{items_from}
 pub use Rattle.rtrb.specs.Ring.{consumer_capacity, known_free, known_items, producer_capacity, received, sent}
 pub use Rattle.std.specs.List.{All}
 pub use Rattle.std.specs.Option.{option_map_or}

@@ -2,8 +2,8 @@
 
 ghost use Rattle.std.specs.Prelude.{◌≡◌, ◌<◌, ◌++◌, true, None, is_some, option_to_list, IfOk, IsFalse, OnErr};
 ghost use Rattle.rtrb.specs.Ring.{sent, known_free};
-ghost use Rattle.mv_party.specs.Calls.{apply_fault};
-ghost use Rattle.mv_ends.specs.RepoEnd.{answer_by, stands_to};
+ghost use Rattle.mv_party.specs.Calls.{apply_fault, with_taken};
+ghost use Rattle.mv_ends.specs.RepoEnd.{stands_to};
 ghost use Rattle.mv_ends.specs.Rings.{ring_put, is_full};
 
 use crate::parcel::Parcel;
@@ -15,6 +15,7 @@ use std::alloc::{AllocError, Global};
 
 /// What goes on the uplink of the answer that a frame from a party calls for, where the frame is the next and the party can
 /// submit it. Refused for want of memory, where it calls for one.
+#[tactic(auto, using(crate::proofs::SiteEndLemmas::none_more))]
 pub(crate) fn answer_parcel(
     alloc: Global,
     site: &Site,
@@ -24,7 +25,8 @@ pub(crate) fn answer_parcel(
 ) -> Result<Option<Parcel<Shared<Message>>>, AllocError>
     requires { from < site.now.parties }
     ensures answer { IfOk result (λ parcel. apply_fault full site.now from frame.now.item (stands_to site.now from frame.now) ≡ None
-        → parcel ≡ answer_by site.now from frame.now.item (stands_to site.now from frame.now)) }
+        → site.now.submissions ++ option_to_list parcel
+        ≡ (with_taken site.now from frame.now.item (stands_to site.now from frame.now)).submissions) }
     ensures free { OnErr result (apply_fault full site.now from frame.now.item (stands_to site.now from frame.now) ≡ None) }
     ensures next { OnErr result (stands_to site.now from frame.now ≡ Look.Next) }
 {

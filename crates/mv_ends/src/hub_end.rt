@@ -190,6 +190,7 @@ impl HubEnd {
     }
 
     /// Looks at both ends of all rings of a party: the party is lawful beside the hub.
+    #[tactic(auto, using(crate::proofs::LookLemmas::count_seated))]
     pub(crate) fn look_beside(&mut self, party: Party, repo: &mut RepoEnd)
         requires party { party < length self.old.hub.parties }
         requires seat { IsSeatOf (hub_seat self.old) party (repo_seat repo.old) }

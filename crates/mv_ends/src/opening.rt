@@ -1,8 +1,9 @@
 //! The ends of one opening.
 
-ghost use Rattle.std.specs.Prelude.{IfOk};
-ghost use Rattle.mv_ends.specs.Whole.{AreEnds, AreFresh};
-ghost use Rattle.mv_ends.specs.Opened.{AreLinks};
+ghost use Rattle.std.specs.Prelude.{◌≡◌, IfOk};
+ghost use Rattle.mv_machine.specs.State.{opening};
+ghost use Rattle.mv_ends.specs.Rings.{AreLinks};
+ghost use Rattle.mv_ends.specs.Whole.{AreEnds, IsOpened, state_of};
 
 use crate::hub_end::HubEnd;
 use crate::inlets::Inlets;
@@ -13,8 +14,14 @@ use mv_hub::Parties;
 use mv_link::Frame;
 use mv_machine::Limits;
 use mv_message::{Message, Shared};
-use rtrb::{Producer, RingBuffer};
+use rtrb::{Consumer, Producer, RingBuffer};
 use std::alloc::{AllocError, Global};
+
+/// The hub's end of a party's uplink.
+type Uplink = Consumer<Parcel<Shared<Message>>>;
+
+/// The hub's ends of the links to one party, by sender.
+type Outlets = Vec<Producer<Parcel<Frame>>>;
 
 /// The ends of a system where nothing has happened: the hub's, and that of each repository, in order of party. There is a ring
 /// for the uplink of each party, and one for each ordered pair, of the sizes that the limits give. Refused for want of memory.
@@ -24,19 +31,14 @@ pub fn open(
     limits: Limits,
 ) -> Result<(HubEnd, Vec<RepoEnd>), AllocError>
     ensures ends { IfOk result (λ ends. AreEnds ends.0 ends.1.items) }
-    ensures fresh { IfOk result (λ ends. AreFresh parties limits ends.0 ends.1.items) }
+    ensures fresh { IfOk result (λ ends. state_of ends.0 ends.1.items ≡ opening parties limits) }
 {
     let count = parties.len();
     let mut uplinks = Vec::new(alloc);
     let mut rows = Vec::new(alloc);
     let mut repos = Vec::new(alloc);
     for party in 0..count {
-        let (row, inlets) = open_links(alloc, count, limits.wire())?;
-        let (producer, uplink) = RingBuffer::<Parcel<Shared<Message>>>::new(
-            alloc,
-            limits.uplink() as usize,
-        )?;
-        let repo = RepoEnd::new(alloc, party, count, limits, producer, inlets)?;
+        let (repo, uplink, row) = open_party(alloc, party, count, limits)?;
         uplinks.push(uplink)?;
         rows.push(row)?;
         repos.push(repo)?;
@@ -46,12 +48,24 @@ pub fn open(
     Ok((hub, repos))
 }
 
-/// The two ends of the links to one party from so many.
-fn open_links(
+/// The end of one of so many parties, and the hub's ends of its uplink and of the links to it.
+fn open_party(
     alloc: Global,
+    party: u32,
     count: u32,
-    room: u32,
-) -> Result<(Vec<Producer<Parcel<Frame>>>, Inlets<Frame>), AllocError>
+    limits: Limits,
+) -> Result<(RepoEnd, Uplink, Outlets), AllocError>
+    ensures { IfOk result (λ ends. IsOpened party count limits ends.0 ends.1 ends.2.items) }
+{
+    let (row, inlets) = open_links(alloc, count, limits.wire())?;
+    let room = limits.uplink() as usize;
+    let (producer, uplink) = RingBuffer::<Parcel<Shared<Message>>>::new(alloc, room)?;
+    let repo = RepoEnd::new(alloc, party, count, limits, producer, inlets)?;
+    Ok((repo, uplink, row))
+}
+
+/// The two ends of the links to one party from so many.
+fn open_links(alloc: Global, count: u32, room: u32) -> Result<(Outlets, Inlets<Frame>), AllocError>
     ensures { IfOk result (λ ends. AreLinks count room ends.0.items ends.1) }
 {
     let mut outlets = Vec::new(alloc);

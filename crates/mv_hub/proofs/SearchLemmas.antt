@@ -1,7 +1,7 @@
 -- The search for the batches that chains of links lead to.
 use Rattle.std.proofs.lemmas.Grind.{elements}
 use Rattle.std.proofs.Common.{◌≡◌, ◌<◌, ◌≤◌, ◌+◌, ℕ, Bool, true, false, cond, List, [], ◌∷◌, ◌++◌, length, get_or, take, take_all, Contains, ◌↔◌, ◌⊎◌, inl, inr, subst, sym, refl, ap, ◌∙◌, arith, append_assoc, length-append}
-use Rattle.mv_hub.proofs.Words.{BatchKey, Contains-from_any, Contains-push_cases, Gathers, IsChain, IsReachedFrom, is_same_batch, list_any, take-append-le, take_more}
+use Rattle.mv_hub.proofs.Words.{BatchKey, Contains-from_any, Contains-push_cases, Gathers, IsChain, is_same_batch, list_any, take-append-le, take_more}
 use Rattle.indexmap.specs.IndexSet.{insert_key}
 use Rattle.mv_hub.proofs.ListingLemmas.{batch-same}
 
@@ -31,7 +31,7 @@ gathers_more old more now x gathers = record {
 
 -- Some batches were reached, and the batches that are linked to the first of them too.
 pub record IsSearching (links : BatchKey → List BatchKey) (batch : BatchKey) (next : ℕ) (reached : List BatchKey) : Type 0 where
-  pub sound : (other : BatchKey) → Contains reached other → IsReachedFrom links batch other
+  pub sound : (other : BatchKey) → Contains reached other → (between : List BatchKey) × IsChain links batch between other
   pub begun : (other : BatchKey) → Contains (links batch) other → Contains reached other
   pub closed : (from other : BatchKey) → Contains (take next reached) from → Contains (links from) other → Contains reached other
   pub within : next ≤ length reached
@@ -75,7 +75,7 @@ searching_more links batch next reached new current search below at gathers = re
 -- where each batch that was reached was looked at, all were reached
 pub searching_end : (links : BatchKey → List BatchKey) (batch : BatchKey) (next : ℕ) (reached : List BatchKey)
     → IsSearching links batch next reached → length reached ≤ next
-    → (other : BatchKey) → Contains reached other ↔ IsReachedFrom links batch other
+    → (other : BatchKey) → Contains reached other ↔ ((between : List BatchKey) × IsChain links batch between other)
 searching_end links batch next reached search all other = (search.sound other, λ chain. complete chain.0 batch search.begun chain.1)
   where
     complete : (between : List BatchKey) (from : BatchKey) → ((b : BatchKey) → Contains (links from) b → Contains reached b)

@@ -1,6 +1,6 @@
 -- The names of the library, of the definitions, and of the crates below that the proofs cite, passed on from one place. Declares nothing.
 pub use Rattle.mv_hub.specs.Words.{BatchKey, Closed, Entry, HasRoom, IsSquare, Item, Message, Routed, Sending, cell, has_party, is_same_batch, new_sending, parties_in, pointwise, put}
-pub use Rattle.mv_hub.specs.BatchLinks.{IsAscendingList, IsChain, IsReachedFrom, batch_cmp, link_in}
+pub use Rattle.mv_hub.specs.BatchLinks.{IsAscendingList, IsChain, batch_cmp, link_in}
 unfoldable pub use Rattle.mv_hub.specs.BatchLinks.{linked_to}
 pub use Rattle.mv_hub.specs.Hub.{HubState, items_on, new_hub, next_items, sent_of, with_relayed}
 unfoldable pub use Rattle.mv_hub.specs.Hub.{busy_party, is_busy}

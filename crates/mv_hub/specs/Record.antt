@@ -1,5 +1,5 @@
 -- The hub's record, its audit trail (Regulation (EU) 2016/161, Article 35(1)): the oldest entry stands first.
-use Rattle.std.specs.Prelude.{ℕ, List, [], ◌∷◌, length, Bool, true, ◌==◌, ◌&&◌, not, Option, Some, None, option_map, unwrap_or, if◌then◌else◌, bytes_eq}
+use Rattle.std.specs.Prelude.{ℕ, List, [], ◌∷◌, length, Bool, true, ◌==◌, ◌&&◌, not, Option, Some, None, option_map, if◌then◌else◌, bytes_eq}
 use Rattle.mv_hub.specs.Words.{Closed, Entry, Master, Message, Product, Routed, filter_map, last_or}
 
 -- the messages that were routed from a party, in order
@@ -30,10 +30,6 @@ last_product entries gtin = last_or None (filter_map (product_in gtin) entries)
 -- the markets that the last routed master of a product names, none where there is no master
 abbrev pub last_markets : List Entry → List ℕ → Option (List (List ℕ))
 last_markets entries gtin = option_map (λ product. product.markets) (last_product entries gtin)
-
--- the markets of a product: those of its last routed master, the empty list where there is no master
-abbrev pub market_table : List Entry → List ℕ → List (List ℕ)
-market_table entries gtin = unwrap_or (last_markets entries gtin) []
 
 -- no entry closes the link between two parties
 abbrev pub is_open : List Entry → ℕ → ℕ → Bool

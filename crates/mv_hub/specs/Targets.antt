@@ -1,12 +1,12 @@
 -- Whom a message is for, by the record that stands before it (Articles 33 to 35).
-use Rattle.std.specs.Prelude.{ℕ, List, length, nat_lt, Bool, true, false, ◌==◌, ◌&&◌, ◌||◌, not, filter}
+use Rattle.std.specs.Prelude.{ℕ, List, [], length, nat_lt, Bool, true, false, ◌==◌, ◌&&◌, ◌||◌, not, filter, unwrap_or}
 use Rattle.mv_hub.specs.Words.{Answer, Entry, Master, Message, Query, Recall, Repack, Status, Upload, Withdraw, range_with_len}
-use Rattle.mv_hub.specs.Record.{market_table, is_open}
+use Rattle.mv_hub.specs.Record.{last_markets, is_open}
 use Rattle.mv_hub.specs.Parties.{serves_one, served_by}
 
--- a party serves a market that a product has
+-- a party serves a market of a product: one of those of its last routed master
 abbrev pub serves_product : List (List (List ℕ)) → List Entry → List ℕ → ℕ → Bool
-serves_product parties entries gtin party = serves_one (served_by parties party) (market_table entries gtin)
+serves_product parties entries gtin party = serves_one (served_by parties party) (unwrap_or (last_markets entries gtin) [])
 
 -- A party is a target of a message that another sends: of a master, who serves a market that the product had or now has; of a
 -- repack, who serves a market of one of its products; of a query, who serves a market of its product and did not send it; of an

@@ -1,10 +1,9 @@
 -- Each step keeps a state well formed and lawful, and so does each run.
 use Rattle.std.proofs.lemmas.Grind.{elements}
-use Rattle.std.proofs.Common.{◌≡◌, ℕ, ◌+◌, ◌<◌, true, List, [], ◌∷◌, ◌++◌, length, Some, refl, ◌∙◌, subst, append-nil, arith, length-set, eqb, eqb-true, slice_get, option_to_list}
-use Rattle.mv_machine.proofs.Words.{Query, Allows, Bounds, Closed, Entry, Fits, InRuns, IsLawful, IsLawfulAt, IsLawfulRecord, IsSiteAt, IsPrefix, IsWellFormed, Item, Message, Reply, Runs, SiteState, State, Step, answer_to, answers_in, entry_from, gained, get_or-map-range_with_len, is_open, items_from, items_from-push, items_on, length-map, length-range_with_len, link_items-push, log_of, new_hub, new_site, next_entry, opening, party-applied, party-submitted, put-each, range_with_len, routed_count, routed_from, routed_from-append, sent_of, site_of, square-put, square-replicate, submissions_of, with_applied, with_closed, with_relayed, with_routed, with_site, with_submission, with_wire}
-use Rattle.mv_machine.specs.Steps.{next_item}
+use Rattle.std.proofs.Common.{◌≡◌, ℕ, ◌+◌, ◌<◌, true, List, [], ◌∷◌, ◌++◌, length, Some, refl, ap, ◌∙◌, subst, append-nil, arith, length-set, eqb, eqb-true, slice_get, option_to_list}
+use Rattle.mv_machine.proofs.Words.{Query, Allows, Bounds, Closed, Entry, Fits, InRuns, IsLawful, IsLawfulAt, IsLawfulRecord, IsPrefix, IsWellFormed, Item, Message, Reply, Runs, SiteState, State, Step, answer_to, answers_in, entry_from, gained, get_or-map-range_with_len, is_open, items_from, items_from-push, items_on, length-map, length-range_with_len, link_items-push, log_of, new_hub, new_site, next_entry, opened_site, opening, party-applied, party-submitted, put-each, range_with_len, routed_count, routed_from, routed_from-append, sent_of, site_of, square-put, square-replicate, submissions_of, with_applied, with_closed, with_relayed, with_routed, with_site, with_submission, with_wire}
 use Rattle.mv_machine.proofs.PrefixLemmas.{prefix-grows, prefix-maybe, each-push}
-use Rattle.mv_machine.proofs.StepLemmas.{Change, nothing, submitted, asked, routed, closed, relayed, repeated, dropped, applied, run-keeps}
+use Rattle.mv_machine.proofs.StepLemmas.{Change, next_item, nothing, submitted, asked, routed, closed, relayed, repeated, dropped, applied, run-keeps}
 
 -- well formed and lawful
 pub record IsSound (st : State) : Type 0 where
@@ -16,11 +15,11 @@ with_wire-sound st from to numbers sound = search square-put
 
 -- one party's part is another, of the same party, which is lawful
 site-sound : (st : State) (party : ℕ) (site : SiteState) → IsSound st
-    → (party < length st.hub.parties → IsSiteAt party (length st.hub.parties) st.limits.submissions site)
+    → (party < length st.hub.parties → opened_site site ≡ new_site party (length st.hub.parties) st.limits.submissions)
     → (party < length st.hub.parties → IsLawfulAt st.hub party site) → IsSound (with_site st party site)
 site-sound st party site sound same lawful =
     let each = length-set st.sites party site ∙ sound.well_formed.sites_each in
-    let sites = put-each (λ party site. party < length st.hub.parties → IsSiteAt party (length st.hub.parties) st.limits.submissions site) st.sites party site (new_site 0 0 0) same sound.well_formed.sites in
+    let sites = put-each (λ party site. party < length st.hub.parties → opened_site site ≡ new_site party (length st.hub.parties) st.limits.submissions) st.sites party site (new_site 0 0 0) same sound.well_formed.sites in
     let of_party = put-each (λ party site. party < length st.hub.parties → IsLawfulAt st.hub party site) st.sites party site (new_site 0 0 0) lawful sound.lawful.of_party in
     assumption (each, sites, of_party, sound)
 
@@ -33,7 +32,7 @@ submitted-sound st from message sound none = grind (arith, elements, site-sound,
 applied-sound : (st : State) (from to : ℕ) (item : Item) → IsSound st → from < length st.hub.parties
     → next_item st from to ≡ Some item → IsSound (with_site st to (with_applied (site_of st to) from item))
 applied-sound st from to item sound from_is_party next =
-    site-sound st to (with_applied (site_of st to) from item) sound (λ is_party. assumption (sound.well_formed.sites to is_party)) (λ is_party.
+    site-sound st to (with_applied (site_of st to) from item) sound (sound.well_formed.sites to) (λ is_party.
     let was = sound.lawful.of_party to is_party in record {
       answers = party-applied (length st.hub.parties) (submissions_of st to) (log_of st to) (entry_from from item) was.answers from_is_party;
       routed = prefix-grows (routed_from st.hub.entries to) (submissions_of st to) (option_to_list (answer_to (log_of st to) (entry_from from item))) was.routed;
@@ -105,7 +104,7 @@ opening-sound parties limits = record {
   well_formed = record {
     window = refl;
     sites_each = length-map (range_with_len 0 (length parties)) (λ party. new_site party (length parties) limits.submissions) ∙ length-range_with_len 0 (length parties);
-    sites = λ party is_party. rw (opening-site parties limits party is_party) (record { party_is = refl; parties_are = refl; limit_is = refl });
+    sites = λ party is_party. ap opened_site (opening-site parties limits party is_party);
     sent_each = square-replicate (length parties) 0;
     wires_each = square-replicate (length parties) [];
   };

@@ -1,5 +1,5 @@
 -- What a step changes, and what it has seen to before: one lemma for all that every step keeps.
-use Rattle.std.proofs.Common.{◌≡◌, ℕ, ◌+◌, ◌<◌, ◌≤◌, Bool, true, false, List, [], ◌∷◌, ◌++◌, length, Some, None, refl, sym, subst, arith, slice_get, IsTrue}
+use Rattle.std.proofs.Common.{◌≡◌, ℕ, ◌+◌, ◌<◌, ◌≤◌, Bool, true, false, List, [], ◌∷◌, ◌++◌, length, Option, Some, None, refl, sym, subst, arith, slice_get, IsTrue}
 use Rattle.mv_pack.specs.declared.key.PackKey.{PackKey}
 use Rattle.mv_machine.proofs.Words.{Query, Allows, InSteps, Item, answer_to, entry_from, log_of, nat_tests, Meets, Message, Reply, Runs, State, Step, answers_in, apply_fault, ask_fault, is_open, is_uplink_full, items_on, next-number, no_answer, route_fault, routed_count, sent_of, site_of, submissions_of, submit-free, wire_of, with_applied, with_closed, with_relayed, with_routed, with_site, with_submission, with_wire}
 use Rattle.mv_link.specs.declared.incoming.Look.TheVariants as look
@@ -8,9 +8,14 @@ use Rattle.mv_machine.specs.declared.reply.Reply.TheVariants.{Refused, Submitted
 use Rattle.mv_machine.specs.declared.reply.Refusal.TheVariants.{Memory}
 use Rattle.mv_machine.specs.Replies.{changes_nothing}
 use Rattle.mv_hub.specs.Targets.{reach}
-use Rattle.mv_repository.specs.Effect.{effect_of}
+use Rattle.mv_repository.specs.Pack.{effect_of}
 use Rattle.mv_party.specs.Site.{answer_number}
-use Rattle.mv_machine.specs.Steps.{Answered, submit, ask, verify, verdict, route, relay, next_item, apply, repeat, close, lose, outcome}
+use Rattle.mv_machine.specs.State.{applied_count}
+use Rattle.mv_machine.specs.Steps.{ask, outcome}
+
+-- the item that a repository is to apply next from a sender
+abbrev pub next_item : State → ℕ → ℕ → Option Item
+next_item st from to = slice_get (items_on st.hub from to) (applied_count st from to)
 
 -- a frame is dropped or lost
 abbrev pub drops : Reply → Bool
@@ -47,8 +52,8 @@ pub data Change (st : State) : Step → Reply → State → Type 0 where
       (with_wire (with_site st to (with_applied (site_of st to) from item)) from to rest)
 
 -- so it is of an outcome
-abbrev Changes : State → Step → Answered → Type 0
-Changes st step done = Change st step done.reply done.state
+abbrev Changes : State → Step → Reply × State → Type 0
+Changes st step done = Change st step done.0 done.1
 
 module _ (st : State) where
   ask-changes : (party : ℕ) (key : PackKey) → Changes st (Verify party key) (ask st party key)
@@ -56,7 +61,7 @@ module _ (st : State) where
   ask-changes party key = grind (arith, nat_tests, nothing, asked)
 
   outcome-changes : (step : Step) → Changes st step (outcome st step)
-  unfolding submit verify route relay apply repeat close lose verdict
+  unfolding outcome
   outcome-changes (Submit from message) = grind (arith, nat_tests, nothing, submitted, no_answer, submit-free (is_uplink_full st from) (site_of st from) message)
   outcome-changes (Verify party key) = grind (arith, nat_tests, nothing, ask-changes party key)
   outcome-changes (Route from) = grind (arith, nat_tests, nothing, routed)
@@ -67,11 +72,11 @@ module _ (st : State) where
   outcome-changes (Lose from to) = grind (arith, nat_tests, nothing, dropped)
   outcome-changes (Verdict party q) = grind (arith, nat_tests, nothing)
 
-  is-outcome : (step : Step) (expected : Answered) (reply : Reply) (new : State) → Changes st step expected → reply ≡ expected.reply → new ≡ expected.state → Change st step reply new
+  is-outcome : (step : Step) (expected : Reply × State) (reply : Reply) (new : State) → Changes st step expected → reply ≡ expected.0 → new ≡ expected.1 → Change st step reply new
   is-outcome step expected reply new changes same_reply same_state = rw (same_reply, same_state) changes
 
   -- and so where the outcome is met: want of memory changes nothing
-  meets-changes : (step : Step) (expected : Answered) (reply : Reply) (new : State) → Changes st step expected → Meets st expected reply new → Change st step reply new
+  meets-changes : (step : Step) (expected : Reply × State) (reply : Reply) (new : State) → Changes st step expected → Meets st expected reply new → Change st step reply new
   unfolding Meets
   meets-changes step expected (Refused Memory) new changes met = subst (Change st step (Refused Memory)) (sym met.0) (nothing step (Refused Memory) refl)
   meets-changes step expected reply new changes met = is-outcome step expected reply new changes met.0 met.1

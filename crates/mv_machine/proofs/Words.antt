@@ -12,12 +12,12 @@ pub use Rattle.mv_link.specs.Frames.{number_of}
 pub use Rattle.mv_link.specs.declared.item.Item.{Item}
 pub use Rattle.mv_link.specs.declared.item.Item.TheVariants.{Carried, Receipt}
 pub use Rattle.mv_machine.specs.Headline.{AppliedIsSubmitted, Follows, HeadlineHolds, IsOfSubmission, IsRoutedAt, NumbersRise, is_carried}
-pub use Rattle.mv_machine.specs.Lawful.{Fits, IsLawful, IsLawfulAt, IsLawfulRecord, IsSiteAt, IsWellFormed}
+pub use Rattle.mv_machine.specs.Lawful.{Fits, IsLawful, IsLawfulAt, IsLawfulRecord, IsWellFormed}
 pub use Rattle.mv_machine.specs.Laws.{ClosedLinksStayClosed, InRuns, InSteps, NumbersSuffice, StampsSuffice}
 pub use Rattle.mv_machine.specs.Limits.{Bounds}
 pub use Rattle.mv_machine.specs.Runs.{Runs}
 unfoldable pub use Rattle.mv_machine.specs.Runs.{Allows, Meets}
-pub use Rattle.mv_machine.specs.State.{State, is_party, is_uplink_full, log_of, opening, site_of, submissions_of, wire_of, with_site, with_wire}
+pub use Rattle.mv_machine.specs.State.{State, is_party, is_uplink_full, log_of, opened_site, opening, site_of, submissions_of, wire_of, with_site, with_wire}
 pub use Rattle.mv_machine.specs.declared.reply.Reply.{Reply}
 pub use Rattle.mv_machine.specs.declared.step.Step.{Step}
 pub use Rattle.mv_message.specs.declared.message.Message.TheVariants.{Query}
@@ -26,7 +26,7 @@ pub use Rattle.mv_pairs.proofs.CallerLemmas.{put-each, put-each_pair, square-put
 pub use Rattle.mv_party.proofs.CallerLemmas.{items_from-push, no_answer, party-applied, party-submitted, submit-free}
 pub use Rattle.mv_party.specs.Calls.{apply_fault, ask_fault}
 pub use Rattle.mv_party.specs.Site.{SiteState, answers_in, entry_from, new_site, with_applied, with_submission}
-pub use Rattle.mv_repository.specs.Log.{items_from}
+pub use Rattle.mv_repository.specs.Repository.{items_from}
 pub use Rattle.mv_repository.specs.Verdict.{answer_to}
 pub use Rattle.mv_repository.specs.declared.entry.LogEntry.{LogEntry}
 pub use Rattle.std.proofs.Math.Seq.{take-append_seam}

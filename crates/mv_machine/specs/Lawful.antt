@@ -1,8 +1,8 @@
 -- What holds of every state that a system comes to.
 use Rattle.std.specs.Prelude.{◌≡◌, ◌<◌, ◌+◌, ℕ, List, length, take, Some, true, slice_get}
-use Rattle.mv_machine.specs.Words.{Entry, HubState, IsLawfulParty, IsPrefix, IsSquare, SiteState, is_open, items_from, items_on, routed_count, routed_from}
+use Rattle.mv_machine.specs.Words.{Entry, HubState, IsLawfulParty, IsPrefix, IsSquare, SiteState, is_open, items_from, items_on, new_site, routed_count, routed_from}
 use Rattle.mv_hub.specs.declared.entry.Entry.TheVariants.{Routed, Closed}
-use Rattle.mv_machine.specs.State.{State, site_of}
+use Rattle.mv_machine.specs.State.{State, opened_site, site_of}
 
 -- An entry fits behind others, in a system of so many parties: it names parties alone, a routed message has the number that follows
 -- those of its sender, and only an open link is closed.
@@ -27,17 +27,12 @@ pub record IsLawful (st : State) : Type 0 where
   pub of_record : IsLawfulRecord (length st.hub.parties) st.hub.entries
   pub of_party : (party : ℕ) → party < length st.hub.parties → IsLawfulAt st.hub party (site_of st party)
 
--- this is the party of a number, one of so many, which submits so many messages at most
-pub record IsSiteAt (party parties limit : ℕ) (site : SiteState) : Type 0 where
-  pub party_is : site.party ≡ party
-  pub parties_are : site.parties ≡ parties
-  pub limit_is : site.limit ≡ limit
-
--- the links keep what the limits say, and there is a part for each party, and a list for each link
+-- the links keep what the limits say, and there is a part for each party, whose number, count and limit are those that the system opened
+-- with, and a list for each link
 pub record IsWellFormed (st : State) : Type 0 where
   pub window : st.hub.window ≡ st.limits.window
   pub sites_each : length st.sites ≡ length st.hub.parties
   pub sites : (party : ℕ) → party < length st.hub.parties
-      → IsSiteAt party (length st.hub.parties) st.limits.submissions (site_of st party)
+      → opened_site (site_of st party) ≡ new_site party (length st.hub.parties) st.limits.submissions
   pub sent_each : IsSquare (length st.hub.parties) st.hub.sent
   pub wires_each : IsSquare (length st.hub.parties) st.wires

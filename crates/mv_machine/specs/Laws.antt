@@ -1,13 +1,12 @@
 -- What every run of the list machine keeps.
-use Rattle.std.specs.Prelude.{◌≡◌, ◌<◌, ◌≤◌, ◌+◌, ◌-◌, ℕ, List, length, nat_lt}
+use Rattle.std.specs.Prelude.{◌≡◌, ◌<◌, ◌≤◌, ◌+◌, ◌*◌, ◌-◌, ℕ, List, length, nat_lt}
 use Rattle.mv_machine.specs.Words.{Entry, Message, PARTIES_LIMIT, PackKey, Reply, SUBMISSIONS_LIMIT, Step, is_busy, items_on, next_items, routed_count, sent_of}
-use Rattle.mv_machine.specs.Limits.{Bounds, most_entries}
+use Rattle.mv_machine.specs.Limits.{Bounds}
 use Rattle.mv_machine.specs.State.{State, submissions_of, opening}
 use Rattle.mv_machine.specs.Steps.{ask}
 use Rattle.mv_machine.specs.Runs.{Meets, Allows, Runs}
-use Rattle.mv_machine.specs.Lawful.{IsLawful, IsLawfulRecord, IsWellFormed}
+use Rattle.mv_machine.specs.Lawful.{IsLawful, IsLawfulRecord}
 use Rattle.mv_machine.specs.Closing.{NothingRoutedLater, NothingSubmittedLater}
-use Rattle.mv_machine.specs.Headline.{Follows, HeadlineHolds}
 
 -- P holds of each state that a system comes to from its opening, whatever the steps and whatever their order
 abbrev pub InRuns : (State → Type 0) → Type 0
@@ -30,10 +29,11 @@ ClosedLinksStayClosed = InRuns (λ between. (steps : List Step) (replies : List 
     → NothingSubmittedLater between new × NothingRoutedLater new)
 
 -- A lawful record of no more parties than there may be, from none of whom more was routed than it may submit, has far fewer than 2 ^ 32
--- entries: each link is closed once at most.
+-- entries: each party is routed as often as it may submit, and each of its links is closed once, at most.
 abbrev pub StampsSuffice : Type 0
 StampsSuffice = (count : ℕ) (entries : List Entry) → IsLawfulRecord count entries → count ≤ PARTIES_LIMIT
-    → ((party : ℕ) → party < count → routed_count entries party ≤ SUBMISSIONS_LIMIT) → length entries ≤ most_entries
+    → ((party : ℕ) → party < count → routed_count entries party ≤ SUBMISSIONS_LIMIT)
+    → length entries ≤ PARTIES_LIMIT * SUBMISSIONS_LIMIT + PARTIES_LIMIT * PARTIES_LIMIT
 
 -- In a lawful state a link is busy for a message of a party that submitted no more than it may only where its window has no room: a link
 -- carries two items at most for each message, so that their numbers have far fewer than 32 bits.
@@ -42,10 +42,6 @@ NumbersSuffice = (st : State) (from to : ℕ) (message : Message) → IsLawful s
     → length (submissions_of st from) ≤ SUBMISSIONS_LIMIT → is_busy st.hub from message to
     ≡ nat_lt st.hub.window (length (items_on st.hub from to) - sent_of st.hub from to + length (next_items st.hub from message to))
 
--- of two lawful states, of which one follows the other, the headline holds; its clause on closed links too
-abbrev pub LawfulStatesKeepHeadline : Type 0
-LawfulStatesKeepHeadline = (old new : State) → IsLawful old → IsWellFormed new → IsLawful new → Follows old new → HeadlineHolds old new
-
--- the headline from a first state to a second, and from that to a third, is the headline from the first to the third
-abbrev pub HeadlinesJoin : Type 0
-HeadlinesJoin = (first second third : State) → HeadlineHolds first second → HeadlineHolds second third → HeadlineHolds first third
+-- what holds from a first to a second, and from there to a third, holds from the first to the third
+abbrev pub IsTransitive : {A : Type 0} → (A → A → Type 0) → Type 0
+IsTransitive {A = A} Holds = (first second third : A) → Holds first second → Holds second third → Holds first third

@@ -1,6 +1,6 @@
 -- The limits of a system.
-use Rattle.std.specs.Prelude.{ℕ, ◌+◌, ◌*◌, ◌≤◌, ◌&&◌, not, Bool, List, codes, nat_le, if◌then◌else◌, Result, Ok, Err}
-use Rattle.mv_machine.specs.Words.{PARTIES_LIMIT, SUBMISSIONS_LIMIT, WINDOW_LEAST, WINDOW_LIMIT}
+use Rattle.std.specs.Prelude.{ℕ, ◌≤◌, ◌&&◌, not, Bool, List, codes, nat_le, if◌then◌else◌, Result, Ok, Err}
+use Rattle.mv_machine.specs.Words.{SUBMISSIONS_LIMIT, WINDOW_LEAST, WINDOW_LIMIT}
 use Rattle.mv_link.specs.Sending.{IsWindow}
 use Rattle.mv_machine.specs.declared.limits.TheConstants.{WIRE_LIMIT, UPLINK_LIMIT}
 use Rattle.mv_machine.specs.declared.limits.LimitsFault.{LimitsFault}
@@ -19,17 +19,10 @@ bounds_of window wire uplink submissions = record { window = window; wire = wire
 
 -- the limits that a system may have
 pub record AreBounds (bounds : Bounds) : Type 0 where
-  pub is_window : IsWindow bounds.window
-  pub wire_least : 1 ≤ bounds.wire
-  pub wire_most : bounds.wire ≤ WIRE_LIMIT
-  pub uplink_least : 1 ≤ bounds.uplink
-  pub uplink_most : bounds.uplink ≤ UPLINK_LIMIT
-  pub submissions_least : 1 ≤ bounds.submissions
-  pub submissions_most : bounds.submissions ≤ SUBMISSIONS_LIMIT
-
--- the most entries that a record has: each party is routed as often as it may submit, and each of its links is closed once
-abbrev pub most_entries : ℕ
-most_entries = PARTIES_LIMIT * SUBMISSIONS_LIMIT + PARTIES_LIMIT * PARTIES_LIMIT
+  pub window : IsWindow bounds.window
+  pub wire : (1 ≤ bounds.wire) × (bounds.wire ≤ WIRE_LIMIT)
+  pub uplink : (1 ≤ bounds.uplink) × (bounds.uplink ≤ UPLINK_LIMIT)
+  pub submissions : (1 ≤ bounds.submissions) × (bounds.submissions ≤ SUBMISSIONS_LIMIT)
 
 -- a number lies between two others
 abbrev pub is_between : ℕ → ℕ → ℕ → Bool

@@ -3,13 +3,13 @@ use Rattle.std.specs.Prelude.{◌≡◌, List, [], ◌∷◌, IsTrue}
 use Rattle.mv_machine.specs.Words.{Memory, Refused, Reply, Step}
 use Rattle.mv_machine.specs.Replies.{takes_memory}
 use Rattle.mv_machine.specs.State.{State}
-use Rattle.mv_machine.specs.Steps.{Answered, outcome}
+use Rattle.mv_machine.specs.Steps.{outcome}
 
 -- This reply and this state are those of an outcome; or, where what is done takes memory, the refusal for want of memory with
 -- nothing changed.
-unfoldable pub Meets : State → Answered → Reply → State → Type 0
-Meets old expected (Refused Memory) new = (new ≡ old) × IsTrue (takes_memory expected.reply)
-Meets old expected reply new = (reply ≡ expected.reply) × (new ≡ expected.state)
+unfoldable pub Meets : State → Reply × State → Reply → State → Type 0
+Meets old expected (Refused Memory) new = (new ≡ old) × IsTrue (takes_memory expected.0)
+Meets old expected reply new = (reply ≡ expected.0) × (new ≡ expected.1)
 
 -- the step may get this reply and leave this state: those of its row, want of memory included
 unfoldable pub Allows : State → Step → Reply → State → Type 0
@@ -19,5 +19,4 @@ Allows old step reply new = Meets old (outcome old step) reply new
 abbrev pub Runs : State → List Step → List Reply → State → Type 0
 Runs old [] [] new = new ≡ old
 Runs old (step ∷ steps) (reply ∷ replies) new = (between : State) × Allows old step reply between × Runs between steps replies new
-Runs old [] (reply ∷ replies) new = ⊥
-Runs old (step ∷ steps) [] new = ⊥
+Runs old steps replies new = ⊥

@@ -18,6 +18,10 @@ is_party st party = nat_lt party (length st.hub.parties)
 abbrev pub site_of : State → ℕ → SiteState
 site_of st party = slice_index_or st.sites party (new_site 0 0 0)
 
+-- a party as it was when its system opened
+abbrev pub opened_site : SiteState → SiteState
+opened_site site = new_site site.party site.parties site.limit
+
 -- what a party submitted
 abbrev pub submissions_of : State → ℕ → List Message
 submissions_of st party = (site_of st party).submissions

@@ -16,6 +16,6 @@ pub use Rattle.mv_pack.specs.declared.key.PackKey.{PackKey}
 pub use Rattle.mv_pairs.specs.Pairs.{IsSquare, cell, put}
 pub use Rattle.mv_party.specs.Site.{IsLawfulParty, SiteState, answer_number, count_from, entry_from, new_site, with_applied, with_submission}
 pub use Rattle.mv_party.specs.declared.limits.TheConstants.{SUBMISSIONS_LIMIT}
-pub use Rattle.mv_repository.specs.Log.{items_from}
+pub use Rattle.mv_repository.specs.Repository.{items_from}
 pub use Rattle.mv_repository.specs.declared.entry.LogEntry.{LogEntry}
 pub use mathlib.Core.List.{IsPrefix}

@@ -2,11 +2,12 @@
 
 ghost use Rattle.std.specs.Prelude.{◌≡◌, IsTrue};
 ghost use Rattle.mv_machine.specs.Replies.{changes_nothing};
+ghost use Rattle.mv_machine.specs.State.{State};
 ghost use Rattle.mv_machine.specs.Lawful.{IsLawful, IsWellFormed};
 ghost use Rattle.mv_machine.specs.Stamps.{StampsAreDistinct};
-ghost use Rattle.mv_machine.specs.Headline.{AppliedIsSubmitted, NumbersRise, HeadlineHolds};
+ghost use Rattle.mv_machine.specs.Headline.{Follows, AppliedIsSubmitted, NumbersRise, HeadlineHolds};
 ghost use Rattle.mv_machine.specs.Bounded.{KeepsLimits};
-ghost use Rattle.mv_machine.specs.Laws.{InRuns, InLawfulStates, InSteps, ClosedLinksStayClosed, StampsSuffice, NumbersSuffice, LawfulStatesKeepHeadline, HeadlinesJoin};
+ghost use Rattle.mv_machine.specs.Laws.{InRuns, InLawfulStates, InSteps, ClosedLinksStayClosed, StampsSuffice, NumbersSuffice, IsTransitive};
 
 /// Whatever the steps and whatever their order: what each repository applied from each sender is a prefix of what the record
 /// put on their link, in order and each once, and what was routed is a prefix of what its sender submitted.
@@ -51,13 +52,14 @@ pub fn items_are_submitted()
 /// with the same messages about a pack agree on it.
 #[tactic(auto, using(crate::proofs::HeadlineLemmas::headline))]
 pub fn lawful_states_keep_headline()
-    ensures { LawfulStatesKeepHeadline }
+    ensures { (old new : State) → IsLawful old → IsWellFormed new → IsLawful new → Follows old new
+        → HeadlineHolds old new }
 {}
 
 /// The headline holds over two calls, one after the other, where it holds over each.
 #[tactic(auto, using(crate::proofs::HeadlineLemmas::headline_further))]
 pub fn headlines_join()
-    ensures { HeadlinesJoin }
+    ensures { IsTransitive HeadlineHolds }
 {}
 
 /// The headline holds over each step, and over each query that is asked, where the state before it is lawful.

@@ -4,8 +4,7 @@ use Rattle.mv_party.proofs.Words.{IsLawfulParty, IsSite, Item, LogEntry, Message
 use Rattle.std.specs.List.{AllByRecursion}
 use Rattle.std.proofs.lemmas.Bool.{cases_eq}
 use Rattle.std.proofs.lemmas.Grind.{elements}
-use Rattle.mv_repository.specs.Log.{items_from}
-use Rattle.mv_repository.specs.Repository.{RepositoryState, with_applied as repository_with}
+use Rattle.mv_repository.specs.Repository.{items_from, RepositoryState, with_applied as repository_with}
 use Rattle.mv_party.specs.declared.fault.SiteFault.{SiteFault}
 use Rattle.mv_party.proofs.AnswerLemmas.{answers_in-more, answers_in-applied}
 

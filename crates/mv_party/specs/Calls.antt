@@ -2,7 +2,7 @@
 use Rattle.std.specs.Prelude.{ℕ, ◌||◌, Bool, Option, Some, None, Result, Ok, Err, if◌then◌else◌, ⊤}
 use Rattle.mv_party.specs.Words.{Item, Message, answer_to, is_query_or_answer}
 use Rattle.mv_link.specs.declared.incoming.Look.{Look}
-use Rattle.mv_repository.specs.Effect.{effect_of}
+use Rattle.mv_repository.specs.Pack.{effect_of}
 use Rattle.mv_party.specs.declared.fault.SiteFault.{SiteFault}
 use Rattle.mv_party.specs.declared.fault.SiteFault.TheVariants.{NotYours, UplinkFull, SenderFull, AnswerBusy}
 use Rattle.mv_party.specs.declared.taken.Taken.{Taken}

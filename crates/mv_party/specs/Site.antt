@@ -2,7 +2,7 @@
 use Rattle.std.specs.Prelude.{◌≡◌, ◌<◌, ◌+◌, ◌==◌, ℕ, List, [], ◌∷◌, ◌++◌, length, Bool, Option, Some, None, option_to_list}
 use Rattle.mv_party.specs.Words.{Answer, Item, LogEntry, Message, answer_to, answers_of}
 use Rattle.std.specs.List.{AllByRecursion}
-use Rattle.mv_repository.specs.Log.{items_from}
+use Rattle.mv_repository.specs.Repository.{items_from}
 
 -- one party of a system
 pub record SiteState : Type 0 where

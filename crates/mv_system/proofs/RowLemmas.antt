@@ -7,7 +7,7 @@ use Rattle.mv_machine.specs.declared.reply.Reply.TheVariants.{Refused}
 use Rattle.mv_machine.specs.declared.reply.Refusal.TheVariants.{WireEmpty}
 use Rattle.mv_machine.specs.Replies.{refusal_of, reply_to}
 use Rattle.mv_machine.specs.State.{is_wire_full}
-use Rattle.mv_machine.specs.Steps.{relay, apply, repeat, lose}
+use Rattle.mv_machine.specs.Steps.{outcome}
 
 -- a list by its front
 front-rest : (xs : List ℕ) (x : ℕ) → slice_get xs 0 ≡ Some x → xs ≡ x ∷ drop 1 xs
@@ -20,21 +20,21 @@ module _ (st : State) where
   pub relay_done : (from to : ℕ) → IsTrue (are_parties st.hub from to) → is_wire_full st from to ≡ false → relay_fault st.hub from to ≡ None
       → Allows st (Relay from to) (Relayed (sent_of st.hub from to + 1))
       (with_wire (record st { hub = with_relayed st.hub from to }) from to (wire_of st from to ++ (sent_of st.hub from to + 1) ∷ []))
-  unfolding Allows Meets relay
+  unfolding Allows Meets outcome
   relay_done from to both room none = grind arith
 
   pub repeat_done : (from to number : ℕ) → IsTrue (are_parties st.hub from to) → is_wire_full st from to ≡ false → repeat_fault st.hub from to number ≡ None
       → Allows st (Repeat from to number) (Repeated number) (with_wire st from to (wire_of st from to ++ number ∷ []))
-  unfolding Allows Meets repeat
+  unfolding Allows Meets outcome
   repeat_done from to number both room none = grind arith
 
   pub lose_done : (from to number : ℕ) → IsTrue (are_parties st.hub from to) → slice_get (wire_of st from to) 0 ≡ Some number
       → Allows st (Lose from to) (Lost number) (with_wire st from to (drop 1 (wire_of st from to)))
-  unfolding Allows Meets lose
+  unfolding Allows Meets outcome
   lose_done from to number both front = grind (arith, front-rest)
 
   pub apply_empty : (from to : ℕ) → IsTrue (are_parties st.hub from to) → slice_get (wire_of st from to) 0 ≡ None → Allows st (Apply from to) (Refused WireEmpty) st
-  unfolding Allows Meets apply
+  unfolding Allows Meets outcome
   apply_empty from to both empty = grind (arith, front-none)
 
   -- the frame in front of a wire, which bears this item, is taken as it stands
@@ -42,7 +42,7 @@ module _ (st : State) where
       → slice_get (wire_of st from to) 0 ≡ Some number → slice_get (items_on st.hub from to) (number - 1) ≡ Some item
       → look_at (count_from site.log from) number ≡ stands → full ≡ is_uplink_full st to → site ≡ site_of st to → apply_fault full site from item stands ≡ None
       → Allows st (Apply from to) (reply_to number (taken_by site from item stands)) (with_wire (with_site st to (with_taken site from item stands)) from to (drop 1 (wire_of st from to)))
-  unfolding Allows Meets apply
+  unfolding Allows Meets outcome
   apply_done from to number item stands full site h1 h2 h3 h4 h5 h6 h7 = grind (arith, set-get_or)
 
   -- it is refused, for the fault that there is, or for want of memory where it is the next
@@ -51,5 +51,5 @@ module _ (st : State) where
       → look_at (count_from site.log from) number ≡ stands → full ≡ is_uplink_full st to → site ≡ site_of st to
       → refused ≡ unwrap_or (apply_fault full site from item stands) SiteMemory → (refused ≡ SiteMemory → stands ≡ look.Next)
       → Allows st (Apply from to) (Refused (refusal_of refused)) st
-  unfolding Allows Meets apply
+  unfolding Allows Meets outcome
   apply_refused from to number item stands full site refused h1 h2 h3 h4 h5 h6 h7 h8 = search rules

@@ -1,24 +1,33 @@
 -- What a plan is beside what its run leaves.
 use Rattle.std.proofs.Common.{◌≡◌, ◌∙◌, ◌<◌, ℕ, zero, suc, Bool, true, false, List, [], ◌∷◌, length, map, get_or, refl, sym, ap, subst, arith, ◌↔◌, ◌&&◌, IsTrue, IsFalse}
-use Rattle.mv_workers.proofs.Words.{nat_tests, ext_get_or, length-map, SiteState, new_site, State, submissions_of, IsLawful, RepoEnd, HubSeat, repo_seat, own_among, Begins, AllUnused, own_of, IsCarried, AreBegun, IsCrewOf, IsBack}
+use Rattle.mv_workers.proofs.Words.{nat_tests, ext_get_or, get_or-map, length-map, SiteState, new_site, State, submissions_of, IsLawful, RepoEnd, HubSeat, repo_seat, own_among, AllUnused, own_of, IsCarried, AreBegun, IsCrewOf, IsBack}
 use Rattle.std.proofs.lemmas.List.Elements.{AllZip-get_or}
-use Rattle.mv_hub.specs.Hub.{HubState}
 use Rattle.mv_machine.specs.Limits.{Bounds}
+use Rattle.mv_machine.specs.State.{opening, site_of}
+use Rattle.mv_machine.proofs.CallerLemmas.{opening-site}
 use Rattle.mv_ends.specs.declared.hub_end.HubEnd.{HubEnd}
-use Rattle.mv_ends.specs.Whole.{AreEnds, AreFresh, sites_of, state_of}
+use Rattle.mv_ends.specs.Whole.{AreEnds, sites_of, state_of}
 use Rattle.mv_workers.specs.declared.plan.Plan.{Plan}
 use Rattle.mv_workers.specs.declared.crew.Crew.{Crew}
 use Rattle.mv_workers.specs.declared.crew.CrewEnds.{CrewEnds}
-use Rattle.mv_workers.specs.Work.{list_at}
+use mathlib.Core.List.{IsPrefix}
 use Rattle.mv_workers.specs.Plans.{IsSound, KeepsPlan, IsComplete}
 
--- nothing was submitted at ends where nothing has happened
-pub fresh_unused : (parties : List (List (List ℕ))) (limits : Bounds) (hub : HubEnd) (repos : List RepoEnd) → AreFresh parties limits hub repos → AllUnused repos
-fresh_unused parties limits hub repos fresh = λ party absent below. record { none = ap (λ (site : SiteState). site.submissions) (fresh.sites party absent below) }
+-- ends where nothing has happened are those of these parties, by these limits
+pub fresh_parties : (parties : List (List (List ℕ))) (limits : Bounds) (hub : HubEnd) (repos : List RepoEnd) → state_of hub repos ≡ opening parties limits → (hub.hub.parties ≡ parties) × (hub.limits ≡ limits)
+fresh_parties parties limits hub repos fresh = (ap (λ (it : State). it.hub.parties) fresh, ap (λ (it : State). it.limits) fresh)
 
 -- there is an end for each party
-pub ends_each : (parties : List (List (List ℕ))) (limits : Bounds) (hub : HubEnd) (repos : List RepoEnd) → AreEnds hub repos → AreFresh parties limits hub repos → length repos ≡ length parties
-ends_each parties limits hub repos ends fresh = sym (length-map repos repo_seat) ∙ ends.each ∙ ap (λ (h : HubState). length h.parties) fresh.hub_is
+pub ends_each : (parties : List (List (List ℕ))) (limits : Bounds) (hub : HubEnd) (repos : List RepoEnd) → AreEnds hub repos → state_of hub repos ≡ opening parties limits → length repos ≡ length parties
+ends_each parties limits hub repos ends fresh = ends.each ∙ ap length (fresh_parties parties limits hub repos fresh).0
+
+-- nothing was submitted at them
+pub fresh_unused : (parties : List (List (List ℕ))) (limits : Bounds) (hub : HubEnd) (repos : List RepoEnd) → AreEnds hub repos → state_of hub repos ≡ opening parties limits → AllUnused repos
+fresh_unused parties limits hub repos ends fresh = λ party absent below.
+    let is_party : party < length parties = omega (arith, below, ends_each parties limits hub repos ends fresh) in record {
+      none = ap (λ (site : SiteState). site.submissions)
+          (sym (get_or-map (λ (repo : RepoEnd). repo.site) repos party absent (new_site 0 0 0) below) ∙ ap (λ (it : State). site_of it party) fresh ∙ opening-site parties limits party is_party);
+    }
 
 -- what a state has of a party's own is what was submitted at its end
 own_at : (repos : List RepoEnd) (party : ℕ) → get_or (map own_of repos) party [] ≡ own_among (get_or (sites_of repos) party (new_site 0 0 0)).submissions
@@ -32,7 +41,8 @@ module _ (plan : Plan) (crew : Crew) (back : CrewEnds) (of_plan : IsCrewOf plan 
   parties_kept = ap (λ (it : State). it.hub.parties) is ∙ ap (λ (seat : HubSeat). seat.parties) is_back.hub_is ∙ of_plan.parties
 
   own_each : length (map own_of back.repos.items) ≡ length outcome.hub.parties
-  own_each = grind (arith, length-map)
+  own_each = length-map back.repos.items own_of ∙ sym (length-map back.repos.items repo_seat) ∙ ap length is_back.repos
+      ∙ length-map crew.ends.1.items repo_seat ∙ of_plan.ends.each ∙ ap length (of_plan.parties ∙ sym parties_kept)
 
   own_is : (party : ℕ) → get_or (map own_of back.repos.items) party [] ≡ own_among (submissions_of outcome party)
   own_is party = own_at back.repos.items party ∙ ap (λ (it : State). own_among (submissions_of it party)) (sym is)
@@ -46,7 +56,7 @@ module _ (plan : Plan) (crew : Crew) (back : CrewEnds) (of_plan : IsCrewOf plan 
     lawful = lawful;
     parties = parties_kept;
     limits = ap (λ (it : State). it.limits) is ∙ ap (λ (seat : HubSeat). seat.limits) is_back.hub_is ∙ of_plan.limits;
-    submitted = λ party below. subst (λ own. Begins own (list_at plan.work party)) (own_is party) (AllZip-get_or Begins (map own_of back.repos.items) plan.work party [] [] begun.0 (subst (λ n. party < n) (sym own_each) below));
+    submitted = λ party below. subst (λ own. IsPrefix own (get_or plan.work party [])) (own_is party) (AllZip-get_or IsPrefix (map own_of back.repos.items) plan.work party [] [] begun.0 (subst (λ n. party < n) (sym own_each) below));
   }
 
   -- they have a complete outcome where all was submitted, and all that was submitted was carried
@@ -59,7 +69,7 @@ module _ (plan : Plan) (crew : Crew) (back : CrewEnds) (of_plan : IsCrewOf plan 
       by false whole = (
         λ told. absurd (cc),
         λ done. whole.1 (ext_get_or [] (map own_of back.repos.items) plan.work (own_each ∙ ap length parties_kept ∙ sym sound.each)
-            (λ party below. own_is party ∙ (done party (subst (λ n. party < n) own_each below)).submitted)),
+            (λ party below. own_is party ∙ (done party (subst (λ n. party < n) own_each below)).0)),
       )
 
   module _ (sound : IsSound plan) (lawful : IsLawful outcome) (carried : Bool)

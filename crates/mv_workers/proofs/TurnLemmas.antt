@@ -26,9 +26,8 @@ unchanged_own old new unchanged = ap (λ (site : SiteState). own_among site.subm
 pub own_applied : (from : ℕ) (old new : RepoEnd) (reply : Reply) → Applies from old new reply → own_of new ≡ own_of old
 own_applied from old new reply applies = grind (arith, nat_tests, taken_own, unchanged_own)
 
-puts_own : (message : Message) (old new : RepoEnd) (number : ℕ) → Puts message old new number → own_among (message ∷ []) ≡ message ∷ []
-    → own_of new ≡ own_of old ++ message ∷ []
-puts_own message old new number puts own = grind (arith, nat_tests, own_among-append)
+puts_own : (message : Message) (old new : RepoEnd) → Puts message old new → own_among (message ∷ []) ≡ message ∷ [] → own_of new ≡ own_of old ++ message ∷ []
+puts_own message old new puts own = grind (arith, nat_tests, own_among-append)
 
 -- what an end submits that is no query is no answer
 own_alone : (message : Message) → is_query_or_answer message ≡ false → own_among (message ∷ []) ≡ message ∷ []
@@ -39,4 +38,4 @@ pub own_submitted : (message : Message) (old new : RepoEnd) (k : ℕ) → Submit
 own_submitted message old new k submits = grind (arith, nat_tests, own_alone, puts_own, submit-free)
 
 pub own_asked : (key : PackKey) (old new : RepoEnd) (q : ℕ) → Asks key old new (Asked q) → own_of new ≡ own_of old ++ Query key ∷ []
-own_asked key old new q asks = puts_own (Query key) old new q asks.0 refl
+own_asked key old new q asks = puts_own (Query key) old new asks.0 refl

@@ -9,12 +9,12 @@ pub use Rattle.mv_machine.specs.State.{State, log_of, submissions_of}
 pub use Rattle.mv_message.specs.declared.message.Message.TheVariants.{Answer, Query}
 pub use Rattle.mv_message.specs.declared.message.Message.{Message}
 pub use Rattle.mv_party.specs.Site.{SiteState, answers_in, new_site}
-pub use Rattle.mv_repository.specs.Log.{items_from}
+pub use Rattle.mv_repository.specs.Repository.{items_from}
 pub use Rattle.mv_repository.specs.declared.entry.LogEntry.{LogEntry}
 pub use Rattle.mv_workers.specs.Crews.{AreBegun, Handle, IsBack, IsCrewOf, end_of, work_of}
 pub use Rattle.mv_workers.specs.Desks.{AllUnused, IsFurther, own_of}
 pub use Rattle.mv_workers.specs.Plans.{IsCarried}
-pub use Rattle.mv_workers.specs.Work.{Begins, is_answer, lists_of, own_among}
+pub use Rattle.mv_workers.specs.Work.{is_answer, lists_of, own_among}
 pub use Rattle.std.proofs.lemmas.Bool.Decides.{nat_tests}
 pub use Rattle.std.proofs.lemmas.Bool.{cases_lt}
 pub use Rattle.std.proofs.lemmas.List.{ext_get_or, get_or-map, length-map, map-append, nil_from_length, same_from_push}

@@ -1,11 +1,10 @@
--- What a party submits of its own, and where one list begins another.
+-- What a party submits of its own, and of which list that is a front.
 use Rattle.std.proofs.Common.{◌≡◌, ◌<◌, get_or, ℕ, Bool, List, [], ◌∷◌, ◌++◌, length, length-append, append-nil, not, sym, ap, ◌∙◌, arith, ◌==◌, ◌↔◌, IsTrue, false}
-use Rattle.mv_workers.proofs.Words.{list_any, nat_tests, length-map, get_or-map, nil_from_length, Message, Answer, answers_in, lists_of, own_among, is_answer, Begins}
-use Rattle.std.proofs.Math.Seq.{take-append_seam}
+use Rattle.mv_workers.proofs.Words.{list_any, nat_tests, length-map, get_or-map, nil_from_length, Message, Answer, answers_in, lists_of, own_among, is_answer}
+use mathlib.Core.List.{IsPrefix}
 use Rattle.std.proofs.lemmas.List.Elements.{filter-append}
 use Rattle.std.specs.declared.alloc.Global.{Global}
 use Rattle.std.specs.declared.vec.Vec.{Vec}
-use Rattle.mv_workers.specs.Work.{list_at}
 
 pub own_among-append : (xs ys : List Message) → own_among (xs ++ ys) ≡ own_among xs ++ own_among ys
 own_among-append xs ys = filter-append (λ (message : Message). not (is_answer message)) xs ys
@@ -26,9 +25,9 @@ lists_counted lists = length-map lists items_of
 
 -- a list is what is kept of it
 pub list_found : (lists : List (Vec Message Global)) (place : ℕ) (list : Vec Message Global) → place < length lists → list ≡ get_or lists place list
-    → list_at (lists_of lists) place ≡ list.items
+    → get_or (lists_of lists) place [] ≡ list.items
 list_found lists place list below is = get_or-map items_of lists place list [] below ∙ ap items_of (sym is)
 
 -- what was submitted and what is left are the list: so it is begun, and all of it was submitted where nothing is left
-pub begun_of : (own left list : List Message) (all : Bool) → own ++ left ≡ list → all ≡ (length left == 0) → Begins own list × (IsTrue all ↔ (own ≡ list))
-begun_of own left list all whole over = grind (arith, length-append own left, take-append_seam, append-nil, nil_from_length)
+pub begun_of : (own left list : List Message) (all : Bool) → own ++ left ≡ list → all ≡ (length left == 0) → IsPrefix own list × (IsTrue all ↔ (own ≡ list))
+begun_of own left list all whole over = ((left, whole), grind (arith, length-append own left, append-nil, nil_from_length))

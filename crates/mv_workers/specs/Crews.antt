@@ -1,6 +1,7 @@
 -- What the ends of a run are before and behind the turns of their workers.
 use Rattle.std.specs.Prelude.{◌≡◌, ◌↔◌, Bool, IsTrue, List, map}
 use Rattle.std.specs.List.{AllZip}
+use mathlib.Core.List.{IsPrefix}
 use Rattle.std.specs.declared.thread.PromisedHandle.{PromisedHandle}
 use Rattle.mv_message.specs.declared.message.Message.{Message}
 use Rattle.mv_ends.specs.declared.repo_end.RepoEnd.{RepoEnd}
@@ -12,7 +13,7 @@ use Rattle.mv_workers.specs.declared.crew.CrewEnds.{CrewEnds}
 use Rattle.mv_workers.specs.declared.crew.DeskPromise.{DeskPromise}
 use Rattle.mv_workers.specs.declared.desk.Desk.{Desk}
 use Rattle.mv_workers.specs.declared.plan.Plan.{Plan}
-use Rattle.mv_workers.specs.Work.{Begins, lists_of}
+use Rattle.mv_workers.specs.Work.{lists_of}
 use Rattle.mv_workers.specs.Desks.{own_of, work_at}
 
 -- the handle of a repository's worker
@@ -36,7 +37,7 @@ pub record IsCrewOf (plan : Plan) (crew : Crew) : Type 0 where
 
 -- what each end submitted of its own is where its party's list begins, and it is told whether that is all of each list
 abbrev pub AreBegun : List (List Message) → List RepoEnd → Bool → Type 0
-AreBegun work repos all = AllZip Begins (map own_of repos) work × (IsTrue all ↔ (map own_of repos ≡ work))
+AreBegun work repos all = AllZip IsPrefix (map own_of repos) work × (IsTrue all ↔ (map own_of repos ≡ work))
 
 -- the ends are those of a crew, behind the turns of its workers
 pub record IsBack (crew : Crew) (back : CrewEnds) : Type 0 where

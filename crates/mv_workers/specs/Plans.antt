@@ -1,31 +1,26 @@
 -- What a run leaves, by its plan, and what is carried out of what a party is to submit.
-use Rattle.std.specs.Prelude.{◌≡◌, ◌<◌, ℕ, List, [], length}
-use Rattle.mv_message.specs.declared.message.Message.{Message}
+use Rattle.std.specs.Prelude.{◌≡◌, ◌<◌, ℕ, [], length, slice_index_or}
+use mathlib.Core.List.{IsPrefix}
 use Rattle.mv_hub.specs.Record.{routed_from}
 use Rattle.mv_hub.specs.Hub.{items_on}
-use Rattle.mv_repository.specs.Log.{items_from}
+use Rattle.mv_repository.specs.Repository.{items_from}
 use Rattle.mv_party.specs.Site.{answers_in}
 use Rattle.mv_machine.specs.State.{State, submissions_of, log_of}
 use Rattle.mv_machine.specs.Lawful.{IsLawful}
 use Rattle.mv_workers.specs.declared.plan.Plan.{Plan}
 use Rattle.mv_workers.specs.declared.plan.WorkFault.{WorkFault}
 use Rattle.mv_workers.specs.declared.plan.WorkFault.TheVariants as fault
-use Rattle.mv_workers.specs.Work.{list_at, own_among, Begins}
+use Rattle.mv_workers.specs.Work.{own_among}
 
 -- All that a party submitted was routed, and it applied all that was routed to it.
 pub record IsCarried (outcome : State) (party : ℕ) : Type 0 where
   pub routed : routed_from outcome.hub.entries party ≡ submissions_of outcome party
   pub applied : (from : ℕ) → from < length outcome.hub.parties → items_from (log_of outcome party) from ≡ items_on outcome.hub from party
 
--- A party is done with its list: it submitted just that and answers, and all was carried.
-pub record IsDone (outcome : State) (party : ℕ) (list : List Message) : Type 0 where
-  pub submitted : own_among (submissions_of outcome party) ≡ list
-  pub carried : IsCarried outcome party
-
 -- A plan can be run: it has a list for each party, and no answer is planned.
 pub record IsSound (plan : Plan) : Type 0 where
   pub each : length plan.work ≡ length plan.parties
-  pub no_answers : (party : ℕ) → party < length plan.work → answers_in (list_at plan.work party) ≡ []
+  pub no_answers : (party : ℕ) → party < length plan.work → answers_in (slice_index_or plan.work party []) ≡ []
 
 -- An outcome is one of a plan: it is lawful and has the plan's parties and limits, and what each party submitted of its own is where
 -- its list begins.
@@ -34,12 +29,13 @@ pub record KeepsPlan (plan : Plan) (outcome : State) : Type 0 where
   pub parties : outcome.hub.parties ≡ plan.parties
   pub limits : outcome.limits ≡ plan.limits
   pub submitted : (party : ℕ) → party < length outcome.hub.parties
-      → Begins (own_among (submissions_of outcome party)) (list_at plan.work party)
+      → IsPrefix (own_among (submissions_of outcome party)) (slice_index_or plan.work party [])
 
--- An outcome is complete: every planned message was submitted in order, all that was submitted was routed, and all that was routed was
--- applied.
+-- An outcome is complete: each party submitted just its list and answers, all that was submitted was routed, and all that was routed
+-- was applied.
 abbrev pub IsComplete : Plan → State → Type 0
-IsComplete plan outcome = (party : ℕ) → party < length outcome.hub.parties → IsDone outcome party (list_at plan.work party)
+IsComplete plan outcome = (party : ℕ) → party < length outcome.hub.parties
+    → (own_among (submissions_of outcome party) ≡ slice_index_or plan.work party []) × IsCarried outcome party
 
 -- why a run has no complete outcome
 abbrev pub Faults : Plan → WorkFault → Type 0

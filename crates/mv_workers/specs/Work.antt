@@ -1,5 +1,5 @@
 -- What parties are to submit.
-use Rattle.std.specs.Prelude.{◌≡◌, ℕ, Bool, true, false, List, [], length, map, filter, not, take, slice_index_or}
+use Rattle.std.specs.Prelude.{Bool, true, false, List, map, filter, not}
 use Rattle.std.specs.declared.alloc.Global.{Global}
 use Rattle.std.specs.declared.vec.Vec.{Vec}
 use Rattle.mv_message.specs.declared.message.Message.{Message}
@@ -9,10 +9,6 @@ use Rattle.mv_message.specs.declared.message.Message.TheVariants.{Answer}
 abbrev pub lists_of : List (Vec Message Global) → List (List Message)
 lists_of lists = map (λ (list : Vec Message Global). list.items) lists
 
--- what one party is to submit, in order
-abbrev pub list_at : List (List Message) → ℕ → List Message
-list_at work party = slice_index_or work party []
-
 -- a message is the answer to a query
 abbrev pub is_answer : Message → Bool
 is_answer (Answer asker q key found) = true
@@ -21,7 +17,3 @@ is_answer message = false
 -- what a party submits of its own: all but the answers to queries
 abbrev pub own_among : List Message → List Message
 own_among messages = filter (λ message. not (is_answer message)) messages
-
--- a list is where another begins
-abbrev pub Begins : List Message → List Message → Type 0
-Begins front list = front ≡ take (length front) list

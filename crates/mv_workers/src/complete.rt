@@ -6,7 +6,7 @@
 ghost use Rattle.std.specs.Prelude.{◌≡◌, ◌↔◌, ◌<◌, ℕ, length, IsTrue};
 ghost use Rattle.mv_hub.specs.Record.{routed_from};
 ghost use Rattle.mv_hub.specs.Hub.{items_on};
-ghost use Rattle.mv_repository.specs.Log.{items_from};
+ghost use Rattle.mv_repository.specs.Repository.{items_from};
 ghost use Rattle.mv_machine.specs.State.{is_party, submissions_of, log_of};
 ghost use Rattle.mv_workers.specs.Plans.{IsCarried};
 

@@ -91,7 +91,7 @@ impl Crew {
     ghost use Rattle.mv_workers.specs.Crews.{AreBegun, IsCrewOf, IsBack, end_of, work_of};
 
     /// Gets all that a run by a plan needs. Refused for want of memory.
-    #[tactic(auto, using(crate::proofs::PlanLemmas::ends_each))]
+    #[tactic(auto, using(crate::proofs::PlanLemmas::ends_each, crate::proofs::PlanLemmas::fresh_parties))]
     pub(crate) fn of(alloc: Global, plan: Plan) -> Result<Crew, AllocError>
         requires { IsSound plan }
         ensures { IfOk result (λ crew. IsCrewOf plan crew) }

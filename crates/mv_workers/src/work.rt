@@ -1,9 +1,9 @@
 //! What each party is to submit.
 
-ghost use Rattle.std.specs.Prelude.{◌≡◌, ◌↔◌, ◌<◌, ℕ, [], length, IfOk, IsTrue};
+ghost use Rattle.std.specs.Prelude.{◌≡◌, ◌↔◌, ◌<◌, ℕ, [], length, slice_index_or, IfOk, IsTrue};
 ghost use Rattle.std.specs.List.{list_any};
 ghost use Rattle.mv_party.specs.Site.{answers_in};
-ghost use Rattle.mv_workers.specs.Work.{lists_of, list_at, is_answer};
+ghost use Rattle.mv_workers.specs.Work.{lists_of, is_answer};
 
 use mv_ends::Parcel;
 use mv_message::{Message, Shared};
@@ -45,7 +45,7 @@ impl Work {
     /// Whether no answer is among what the parties are to submit.
     #[tactic(auto, using(crate::proofs::WorkLemmas::list_found, crate::proofs::WorkLemmas::lists_counted, crate::proofs::WorkLemmas::none_answers))]
     pub(crate) fn has_no_answer(&self) -> bool
-        ensures { IsTrue result ↔ ((party : ℕ) → party < length self.now → answers_in (list_at self.now party) ≡ []) }
+        ensures { IsTrue result ↔ ((party : ℕ) → party < length self.now → answers_in (slice_index_or self.now party []) ≡ []) }
     {
         for party in 0..self.lists.len() {
             if has_answer(self.lists[party].as_slice()) {

@@ -1,5 +1,5 @@
 //! The steps: each asks what it needs, and makes one change. Only these open the fields of the system to write.
-#![tactic(auto, unfolding(mv_machine::specs::Runs::Allows, mv_machine::specs::Runs::Meets, mv_machine::specs::Steps::submit, mv_machine::specs::Steps::verify, mv_machine::specs::Steps::ask, mv_machine::specs::Steps::route, mv_machine::specs::Steps::relay, mv_machine::specs::Steps::apply, mv_machine::specs::Steps::repeat, mv_machine::specs::Steps::close, mv_machine::specs::Steps::lose, mv_machine::specs::Steps::verdict, mv_hub::specs::Hub::route_fault))]
+#![tactic(auto, unfolding(mv_machine::specs::Runs::Allows, mv_machine::specs::Runs::Meets, mv_machine::specs::Steps::ask, mv_machine::specs::Steps::outcome, mv_hub::specs::Hub::route_fault))]
 
 ghost use Rattle.std.specs.Prelude.{◌≡◌, IsTrue, IfErr, OnOk, OnErr, false};
 ghost use Rattle.mv_machine.specs.Runs.{Meets, Allows};

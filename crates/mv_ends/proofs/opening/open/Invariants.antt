@@ -1,5 +1,5 @@
 use Rattle.std.proofs.Common.{◌≡◌, length, vec_items}
-use Rattle.mv_ends.proofs.Words.{AreOpened}
+use Rattle.mv_ends.proofs.OpeningLemmas.{AreOpened}
 use Rattle.mv_ends.proofs.opening.open.Given as goal
 
 -- the rings of each party so far are opened

@@ -1,5 +1,5 @@
 use Rattle.std.proofs.Common.{◌<◌, ◌∙◌, length, sym, ap, subst, arith}
-use Rattle.mv_ends.proofs.Words.{length-map, IsSquare, HubState, hub_seat, repo_seat}
+use Rattle.mv_ends.proofs.Words.{IsSquare, HubState}
 use Rattle.mv_ends.proofs.LookLemmas.{seat_of}
 use Rattle.mv_ends.proofs.OutcomeLemmas.{gathering_more, outcome_of}
 use Rattle.mv_ends.proofs.outcome.gather.Goals as goal
@@ -8,15 +8,15 @@ pub look_beside-requires-clause-seat : goal.look_beside-requires-clause-seat
 look_beside-requires-clause-seat c =
     let was = c.loop-party.invariant.1 in
     let repos = c.loop-party.repos.items in
-    let below : c.loop-party.party < length repos = omega (arith, c.loop-party-test.true, c.loop-party.invariant.0, was.ends.each, length-map repos repo_seat) in
-    seat_of (hub_seat c.loop-party.hub) repos c.loop-party.party c.index_mut.result.now was.ends below c.index_mut.ensures.value
+    let below : c.loop-party.party < length repos = omega (arith, c.loop-party-test.true, c.loop-party.invariant.0, was.ends.each) in
+    seat_of c.loop-party.hub repos c.loop-party.party c.index_mut.result.now was.ends below c.index_mut.ensures.value
 
 pub loop-party-preserved : goal.loop-party-preserved
 loop-party-preserved c =
     let look = c.look_beside.ensures in
     let was = c.loop-party.invariant.1 in
     let repos = c.loop-party.repos.items in
-    let below : c.loop-party.party < length repos = omega (arith, c.loop-party-test.true, c.loop-party.invariant.0, was.ends.each, length-map repos repo_seat) in (
+    let below : c.loop-party.party < length repos = omega (arith, c.loop-party-test.true, c.loop-party.invariant.0, was.ends.each) in (
       c.loop-party.invariant.0 ∙ ap (λ (h : HubState). length h.parties) (sym look.hub.hub),
       gathering_more _ c.loop-party.hub c.look_beside.new.self repos c.loop-party.party c.index_mut.result.now c.look_beside.new.repo
           was below c.index_mut.ensures.value look.same look.hub look.repo look.unchanged look.lawful,

@@ -2,6 +2,14 @@ use Rattle.std.proofs.Common.{refl}
 use Rattle.mv_workers.proofs.PlanLemmas.{judged_ok, judged_err}
 use Rattle.mv_workers.proofs.run.run_workers.Goals as goal
 
+-- the ends that came back are those of the crew still
+pub gather-outcome-requires : goal.gather-outcome-requires
+gather-outcome-requires g c =
+    let crew = c.in-Ok-of.crew.ends in
+    let back = c.in-Some.back in
+    let is_back = c.in-Some.ensures.1 in
+    c.ends_stay_ends.ensures crew.0 back.hub crew.1.items back.repos.items is_back.hub_is is_back.repos c.in-Ok-of.ensures.ends
+
 -- the outcome keeps the plan, and is complete
 pub returns-then-back-is_carried-clause-complete : goal.returns-then-back-is_carried-clause-complete
 returns-then-back-is_carried-clause-complete g c =

@@ -1,6 +1,6 @@
 use Rattle.std.proofs.Common.{[], get_or, subst, sym, arith}
-use Rattle.mv_ends.proofs.Words.{IsLawfulParty, items_on, cell}
-use Rattle.mv_ends.proofs.LookLemmas.{applied_front}
+use Rattle.mv_ends.proofs.Words.{IsLawfulParty, items_on, cell, hub_seat}
+use Rattle.mv_ends.proofs.LookLemmas.{applied_front, count_seated}
 use Rattle.mv_ends.proofs.hub_end.HubEnd.look_beside.Goals as goal
 
 pub returns-clause-lawful : goal.returns-clause-lawful
@@ -9,12 +9,12 @@ returns-clause-lawful c =
     let hub = end.hub in
     let repo = c.args.repo.now in
     let site = repo.site in
-    let seat = c.requires.seat in
+    let count = count_seated (hub_seat end) c.args.party repo c.requires.seat in
     record {
-      answers = subst (λ n. IsLawfulParty n site.submissions site.log) seat.parties c.sub.ensures.lawful;
+      answers = subst (λ n. IsLawfulParty n site.submissions site.log) count c.sub.ensures.lawful;
       routed = rw (sym (end.took c.args.party c.requires.party), sym repo.pushed) c.look_beside.ensures.front;
       applied = λ from below.
           applied_front site.log from (items_on hub from c.args.party) (get_or repo.inlets.taken from []) (cell end.wires.put c.args.party from [])
-          (repo.accepted from (omega (arith, below, seat.parties))) (c.look_beside-2.ensures.front from (omega (arith, below, seat.parties, repo.each)))
+          (repo.accepted from (omega (arith, below, count))) (c.look_beside-2.ensures.front from (omega (arith, below, count, repo.each)))
           (end.of_links from c.args.party);
     }

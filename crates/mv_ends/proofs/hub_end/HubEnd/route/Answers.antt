@@ -1,6 +1,7 @@
 -- The hub routed what is taken from the uplink.
 use Rattle.std.proofs.Common.{◌≡◌, ◌+◌, length, rules}
 use Rattle.mv_ends.proofs.Words.{routed_count, with_item}
+use Rattle.mv_machine.specs.declared.reply.Reply.TheVariants.{Routed}
 use Rattle.mv_ends.proofs.EndLemmas.{of_links_entered, took_routed, within_routed, route_refused}
 use Rattle.mv_ends.proofs.hub_end.HubEnd.route.Goals as goal
 
@@ -29,8 +30,7 @@ returns-in-Ok-clause-reply c =
       put = search rules;
       hub = c.in-Ok.ensures.ok;
       free = search rules;
-      number = search rules;
-      reach_is = search rules;
+      reply_is = λ i. Routed (c.in-Ok.ensures.number i) (c.in-Ok.ensures.reach i);
     }
 
 pub invariant_of-self-in-Ok-clause-square : goal.invariant_of-self-in-Ok-clause-square

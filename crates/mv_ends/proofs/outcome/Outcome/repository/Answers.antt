@@ -1,5 +1,5 @@
 use Rattle.std.proofs.Common.{◌∙◌, ap}
-use Rattle.mv_ends.proofs.Words.{SiteState, hub_seat}
+use Rattle.mv_ends.proofs.Words.{SiteState}
 use Rattle.mv_ends.proofs.LookLemmas.{seat_of}
 use Rattle.mv_ends.proofs.OutcomeLemmas.{place_of, shown}
 use Rattle.mv_ends.proofs.outcome.Outcome.repository.Goals as goal
@@ -9,7 +9,7 @@ returns-clause-party c =
     let hub = c.self.inside.hub in
     let repos = c.self.inside.repos.items in
     let below = place_of hub repos c.args.self.now c.args.party c.self.view_is c.self.invariant.ends c.requires in
-    c.repository.ensures.party ∙ (seat_of (hub_seat hub) repos c.args.party c.index.result.now c.self.invariant.ends below c.index.ensures).party_is
+    c.repository.ensures.party ∙ ap (λ (site : SiteState). site.party) (seat_of hub repos c.args.party c.index.result.now c.self.invariant.ends below c.index.ensures).site
 
 pub returns-clause-log : goal.returns-clause-log
 returns-clause-log c =

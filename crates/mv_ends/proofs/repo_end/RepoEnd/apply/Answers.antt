@@ -1,7 +1,7 @@
 -- The party took the frame that is taken from the link, and what it answers is on its uplink.
 use Rattle.std.proofs.Common.{◌≡◌, ◌∙◌, refl, sym, ap, rules, ◌++◌, option_to_list, Err}
-use Rattle.mv_ends.proofs.Words.{sent, Taken, SiteState, reply_to, with_item, stands_to}
-use Rattle.mv_ends.proofs.SiteEndLemmas.{apply_refused, apply_taken, memory_told, refused_for, submitted_by, accepted_taken}
+use Rattle.mv_ends.proofs.Words.{sent, Taken, SiteState, reply_to, with_item}
+use Rattle.mv_ends.proofs.SiteEndLemmas.{apply_refused, apply_taken, memory_told, more_submitted, refused_for, accepted_taken}
 use Rattle.mv_ends.proofs.repo_end.RepoEnd.apply.Goals as goal
 
 pub returns-in_default-clause-reply : goal.returns-in_default-clause-reply
@@ -24,11 +24,10 @@ returns-in-Err-clause-reply c =
 pub invariant_of-self-in-Ok-apply-clause-pushed : goal.invariant_of-self-in-Ok-apply-clause-pushed
 invariant_of-self-in-Ok-apply-clause-pushed c =
     let site = c.args.self.now.site in
-    let frame = c.front-frame.result.now in
     let before : sent c.is_full-full.new.uplink ≡ site.submissions = search rules in
     c.put_answer.ensures.put
-    ∙ (λ i. before i ++ option_to_list (c.in-Ok.ensures.answer c.in-Ok-apply.ensures.fault i))
-    ∙ sym (submitted_by site c.args.from frame.item (stands_to site c.args.from frame))
+    ∙ (λ i. before i ++ option_to_list c.in-Ok.parcel)
+    ∙ c.in-Ok.ensures.answer c.in-Ok-apply.ensures.fault
     ∙ ap (λ (s : SiteState). s.submissions) (sym c.in-Ok-apply.ensures.ok)
 
 pub invariant_of-self-in-Ok-apply-clause-accepted : goal.invariant_of-self-in-Ok-apply-clause-accepted
@@ -41,12 +40,14 @@ invariant_of-self-in-Ok-apply-clause-accepted c =
 
 pub returns-in-Ok-apply-clause-reply : goal.returns-in-Ok-apply-clause-reply
 returns-in-Ok-apply-clause-reply c =
+    let site = c.args.self.now.site in
     let frame = c.front-frame.result.now in
+    let all = c.in-Ok.ensures.answer c.in-Ok-apply.ensures.fault ∙ ap (λ (s : SiteState). s.submissions) (sym c.in-Ok-apply.ensures.ok) in
     rw c.of_taken.ensures (apply_taken c.args.from frame.number c.args.self.now _ c.in-Ok-apply.taken record {
       frame = frame;
       taken = rw (c.take-frame.ensures.takes, c.is_empty.ensures.nothing, c.take-frame.ensures.front frame c.front-frame.ensures);
       site = c.in-Ok-apply.ensures.ok;
       pushed = c.put_answer.ensures.put
-          ∙ (λ i. c.is_full-full.ensures.nothing i ++ option_to_list (c.in-Ok.ensures.answer c.in-Ok-apply.ensures.fault i));
+          ∙ (λ i. c.is_full-full.ensures.nothing i ++ more_submitted site.submissions (option_to_list c.in-Ok.parcel) _ all i);
       reply_is = ap (reply_to frame.number) c.in-Ok-apply.ensures.value;
     })

@@ -17,4 +17,4 @@ invariant_of-result-clause-each c =
 -- nothing was submitted at them
 pub invariant_of-result-clause-unused : goal.invariant_of-result-clause-unused
 invariant_of-result-clause-unused c =
-    fresh_unused c.args.plan.parties c.args.plan.limits c.in_ok-ends.ends.0 c.in_ok-ends.ends.1.items c.in_ok-ends.ensures.fresh
+    fresh_unused c.args.plan.parties c.args.plan.limits c.in_ok-ends.ends.0 c.in_ok-ends.ends.1.items c.in_ok-ends.ensures.ends c.in_ok-ends.ensures.fresh

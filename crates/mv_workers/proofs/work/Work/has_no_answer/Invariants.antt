@@ -1,7 +1,6 @@
-use Rattle.std.proofs.Common.{◌≡◌, ◌<◌, ℕ, []}
+use Rattle.std.proofs.Common.{◌≡◌, ◌<◌, ℕ, [], get_or}
 use Rattle.mv_workers.proofs.Words.{answers_in, lists_of}
-use Rattle.mv_workers.specs.Work.{list_at}
 use Rattle.mv_workers.proofs.work.Work.has_no_answer.Given as goal
 
 abbrev pub invariant-loop-party : goal.invariant-loop-party
-invariant-loop-party l = (party : ℕ) → party < l.party → answers_in (list_at (lists_of l.self-inside.lists.items) party) ≡ []
+invariant-loop-party l = (party : ℕ) → party < l.party → answers_in (get_or (lists_of l.self-inside.lists.items) party []) ≡ []

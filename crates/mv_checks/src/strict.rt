@@ -1,10 +1,10 @@
 //! Runs steps, and counts the lines that were not taken.
 
-ghost use Rattle.std.specs.Prelude.{◌≡◌, ℕ, List, None, Some, OnOk, IfErr, IfSome, true};
+ghost use Rattle.std.specs.Prelude.{◌≡◌, ℕ, List, None, OnOk, IfErr, IfSome};
 ghost use Rattle.std.specs.Io.KnownBytes.{Consumes};
 ghost use Rattle.mv_engine.specs.Served.{Served, Ended, EndedAt};
 ghost use Rattle.mv_lines.specs.Sessions.{Open, IsReply};
-ghost use Rattle.mv_checks.specs.Strict.{IsStrictReply, strict_at, tallied};
+ghost use Rattle.mv_checks.specs.Strict.{IsStrictReply, tallied};
 
 use mv_format::append_json;
 use mv_lines::{Answering, ServeFault, Session, answer_lines};
@@ -44,11 +44,11 @@ struct Counted {
 
 impl Model for Counted {
     ghost use Rattle.std.specs.Mem.{manually_drop_value};
-    ghost use Rattle.mv_checks.specs.Strict.{Strict, strict_at};
+    ghost use Rattle.mv_checks.specs.Strict.{Strict};
 
     ghost Value = { Strict };
 
-    ghost view = { λ c. strict_at (manually_drop_value c.session) c.untaken };
+    ghost view = { λ c. (manually_drop_value c.session, c.untaken) };
 }
 
 impl Answering for Counted {
@@ -66,7 +66,7 @@ impl Answering for Counted {
 
 /// The lines that were not taken, with one more.
 fn tallied(untaken: Option<Untaken>, number: u32) -> Untaken
-    ensures { Some result ≡ tallied true number untaken }
+    ensures { result ≡ tallied number untaken }
 {
     match untaken {
         None => Untaken {
@@ -92,12 +92,12 @@ pub fn serve_strict<R: Read, W: Write>(alloc: Global, reader: &mut R, writer: &m
         × Ended IsReply fault None bytes (W.contents writer.old) (W.contents writer.new)) }
     // The lines that were not taken are those of these replies.
     ensures ok { OnOk result.ended (IfSome (R.remaining reader.old) (λ bytes. (after : Open)
-        × Served IsStrictReply (strict_at None None) bytes (strict_at after result.untaken)
+        × Served IsStrictReply (None, None) bytes (after, result.untaken)
         (W.contents writer.old) (W.contents writer.new))) }
     // They are those of the lines that were answered, and of one more where memory was refused for its reply.
     ensures err { IfErr result.ended (λ fault. (bytes : List ℕ)
         × Consumes (R.remaining reader.old) (R.remaining reader.new) bytes × (after : Open)
-        × EndedAt IsStrictReply fault (strict_at None None) bytes (strict_at after result.untaken)
+        × EndedAt IsStrictReply fault (None, None) bytes (after, result.untaken)
         (W.contents writer.old) (W.contents writer.new)) }
 {
     let mut counted = Counted {

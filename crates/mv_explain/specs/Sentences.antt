@@ -1,15 +1,11 @@
 -- The sentence of each code that a reply or standard error can name.
-use Rattle.std.specs.Prelude.{ℕ, ◌==◌, ◌≡◌, List, [], ◌∷◌, Option, bytes_eq, codes, find, map, option_map}
+use Rattle.std.specs.Prelude.{ℕ, ◌==◌, List, [], ◌∷◌, Option, bytes_eq, codes, find, map, option_map}
 use Rattle.std.specs.List.{before_first, after_first}
 use Rattle.mv_explain.specs.declared.sentences.TheConstants.{ROWS}
 
 -- the code that a row begins with: what stands before its first blank (32)
 abbrev pub code_in : List ℕ → List ℕ
 code_in row = before_first (λ byte. byte == 32) row
-
--- the sentence of a row: what stands behind that blank
-abbrev pub sentence_after : List ℕ → List ℕ
-sentence_after row = after_first (λ byte. byte == 32) row
 
 -- the codes that have a sentence, in the order of their rows
 abbrev pub all_codes : List (List ℕ)
@@ -24,13 +20,9 @@ all_codes =
     ∷ codes "E7" ∷ codes "E8" ∷ codes "E9" ∷ codes "E10" ∷ codes "E11" ∷ codes "E12" ∷ codes "E13" ∷ codes "V1" ∷ codes "V2" ∷ codes "V3"
     ∷ codes "V4" ∷ codes "V5" ∷ codes "V6" ∷ []
 
--- the rows are those of these codes, in this order
-abbrev pub AreListed : List (List ℕ) → Type 0
-AreListed rows = map code_in rows ≡ all_codes
-
--- the sentence of a code in these rows
+-- the sentence of a code in these rows: what stands behind the first blank of its row
 abbrev pub sentence_in : List (List ℕ) → List ℕ → Option (List ℕ)
-sentence_in rows code = option_map sentence_after (find (λ row. bytes_eq code (code_in row)) rows)
+sentence_in rows code = option_map (after_first (λ byte. byte == 32)) (find (λ row. bytes_eq code (code_in row)) rows)
 
 -- the sentence of a code; a word that is no code has none
 unfoldable pub sentence_of : List ℕ → Option (List ℕ)

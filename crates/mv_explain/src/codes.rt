@@ -1,8 +1,9 @@
 //! The sentence of a code.
 
-ghost use Rattle.std.specs.Prelude.{◌≡◌, map, option_map};
+ghost use Rattle.std.specs.Prelude.{◌≡◌, ◌==◌, map, option_map};
+ghost use Rattle.std.specs.List.{after_first};
 ghost use Rattle.mv_explain.specs.declared.sentences.TheConstants.{ROWS};
-ghost use Rattle.mv_explain.specs.Sentences.{code_in, sentence_after, sentence_in, sentence_of, AreListed};
+ghost use Rattle.mv_explain.specs.Sentences.{all_codes, code_in, sentence_in, sentence_of};
 
 use crate::sentences::ROWS;
 
@@ -16,7 +17,7 @@ pub fn sentence(code: &str) -> Option<&'static str>
 
 /// The codes that have a sentence are those of the definitions, each once, in their order.
 pub fn codes_are_listed()
-    ensures { AreListed (map (λ row. row.now) ROWS) }
+    ensures { map code_in (map (λ row. row.now) ROWS) ≡ all_codes }
 {}
 
 /// The sentence of a code in these rows.
@@ -37,7 +38,7 @@ fn sentence_in(mut rows: &[&'static str], code: &str) -> Option<&'static str>
 /// The code of a row, and its sentence.
 fn parts_of(row: &'static str) -> (&'static str, &'static str)
     ensures code { result.0.now ≡ code_in row.now }
-    ensures sentence { result.1.now ≡ sentence_after row.now }
+    ensures sentence { result.1.now ≡ after_first (λ byte. byte == 32) row.now }
 {
     match row.split_once(' ') {
         Some(parts) => parts,

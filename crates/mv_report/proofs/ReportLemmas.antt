@@ -1,5 +1,5 @@
 -- Lemmas on the report.
-use Rattle.std.proofs.Common.{◌≡◌, ℕ, ◌+◌, ◌-◌, ◌^◌, List, [], ◌∷◌, ◌++◌, refl, append-nil, ap, arith, length, replicate, flat_map, codes, decimal, IfOk, OnOk, zero, suc, false, Result}
+use Rattle.std.proofs.Common.{◌≡◌, ℕ, ◌+◌, ◌-◌, ◌^◌, List, [], ◌∷◌, ◌++◌, refl, append-nil, ap, arith, length, filter, replicate, flat_map, codes, decimal, IfOk, OnOk, zero, suc, false, Result}
 use Rattle.std.proofs.lemmas.Bool.Decides.{nat_tests}
 use Rattle.std.specs.List.{range_with_len, repeat}
 use Rattle.std.specs.Fmt.{padded_integral, format_spec, char_count}
@@ -7,7 +7,7 @@ use Rattle.std.proofs.lemmas.Str.{encode_ascii}
 use Rattle.std.proofs.lemmas.List.{flat_map_more}
 use Rattle.mv_link.proofs.CallerLemmas.{range-append}
 use Rattle.mv_machine.specs.State.{State}
-use Rattle.mv_report.specs.Report.{closed_count, in_ten_places, party_line, head_line, report_text}
+use Rattle.mv_report.specs.Report.{in_ten_places, is_closing, party_line, head_line, report_text}
 
 -- blanks, one by one
 blanks : (n : ℕ) → repeat {A = ℕ} n (32 ∷ []) ≡ replicate n 32
@@ -25,7 +25,7 @@ pub lines_more : (f : ℕ → List ℕ) (head was now : List ℕ) (n : ℕ) → 
 lines_more f head was now n before line = grind (arith, flat_map_more, range-append)
 
 -- all lines of a report are written
-pub report_whole : (outcome : State) (count closed : ℕ) (lines whole : List ℕ) → count ≡ length outcome.hub.parties → closed ≡ closed_count outcome.hub.entries
+pub report_whole : (outcome : State) (count closed : ℕ) (lines whole : List ℕ) → count ≡ length outcome.hub.parties → closed ≡ length (filter is_closing outcome.hub.entries)
     → lines ≡ head_line ++ flat_map (party_line outcome) (range_with_len 0 count)
     → whole ≡ lines ++ (codes "closed links: " ++ (decimal closed ++ 10 ∷ []))
     → whole ≡ report_text outcome

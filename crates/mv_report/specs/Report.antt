@@ -4,17 +4,13 @@ use Rattle.std.specs.List.{range_with_len}
 use Rattle.mv_hub.specs.declared.entry.Entry.{Entry}
 use Rattle.mv_hub.specs.declared.entry.Entry.TheVariants.{Routed, Closed}
 use Rattle.mv_hub.specs.Record.{routed_count}
-use Rattle.mv_repository.specs.Counts.{counts_of}
+use Rattle.mv_repository.specs.Repository.{counts_of}
 use Rattle.mv_machine.specs.State.{State, submissions_of, log_of}
 
 -- the entry closes a link
 abbrev pub is_closing : Entry → Bool
 is_closing (Routed from k message) = false
 is_closing (Closed from to) = true
-
--- how many links a record closes
-abbrev pub closed_count : List Entry → ℕ
-closed_count entries = length (filter is_closing entries)
 
 -- a number on the right of ten places, blanks (32) before it; one that is wider is written whole
 unfoldable pub in_ten_places : ℕ → List ℕ
@@ -38,4 +34,4 @@ head_line = codes "     party submitted    routed   applied  products     packs 
 unfoldable pub report_text : State → List ℕ
 report_text outcome =
     head_line ++ flat_map (party_line outcome) (range_with_len 0 (length outcome.hub.parties))
-    ++ (codes "closed links: " ++ (decimal (closed_count outcome.hub.entries) ++ 10 ∷ []))
+    ++ (codes "closed links: " ++ (decimal (length (filter is_closing outcome.hub.entries)) ++ 10 ∷ []))

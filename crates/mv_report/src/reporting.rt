@@ -1,8 +1,8 @@
 //! The report of a run, as a table of texts.
 
-ghost use Rattle.std.specs.Prelude.{◌≡◌, ◌++◌, IfOk, IsTrue, string_bytes};
+ghost use Rattle.std.specs.Prelude.{◌≡◌, ◌++◌, IfOk, IsTrue, filter, length, string_bytes};
 ghost use Rattle.mv_machine.specs.State.{is_party};
-ghost use Rattle.mv_report.specs.Report.{closed_count, is_closing, party_line, report_text};
+ghost use Rattle.mv_report.specs.Report.{is_closing, party_line, report_text};
 
 use mv_ends::Outcome;
 use mv_hub::Entry;
@@ -53,7 +53,7 @@ fn push_party(text: &mut String, outcome: &Outcome, party: Party) -> Result<(), 
 
 /// How many links a record closes.
 fn closed_count(entries: &[Entry]) -> usize
-    ensures { result ≡ closed_count entries.now }
+    ensures { result ≡ length (filter is_closing entries.now) }
 {
     entries.iter().filter(|entry| is_closing(entry)).count()
 }

@@ -1,7 +1,7 @@
 -- What is counted of a log.
 use Rattle.std.proofs.Common.{◌≡◌, ℕ, List, [], ◌∷◌, length, filter, ◌==◌, refl, rules}
 use Rattle.mv_show.proofs.Words.{LogEntry}
-use Rattle.mv_repository.specs.Log.{items_from}
+use Rattle.mv_repository.specs.Repository.{items_from}
 
 -- as many items of a sender are in a log as entries of it
 pub counted_from : (log : List LogEntry) (sender : ℕ) → length (items_from log sender) ≡ length (filter (λ (entry : LogEntry). entry.sender == sender) log)

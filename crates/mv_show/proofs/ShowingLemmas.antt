@@ -1,5 +1,6 @@
 -- Lemmas on an input that was taken, and on what was shown of it.
 use Rattle.std.proofs.Common.{◌≡◌, ◌≢◌, ℕ, List, [], ◌∷◌, refl, arith, inl, rules, IfSome, Option, Some, None}
+use Rattle.mv_show.proofs.Words.{Appends-nil}
 use Rattle.std.specs.Io.KnownBytes.{Consumes}
 use Rattle.mv_engine.specs.declared.fault.ServeFault.{ServeFault}
 use Rattle.mv_engine.specs.declared.fault.ServeFault.TheVariants.{Read, Write, Memory}
@@ -7,7 +8,7 @@ use Rattle.mv_engine.specs.Lines.{Line, pieces}
 use Rattle.mv_engine.specs.Replies.{AreReplies, said_texts}
 use Rattle.mv_engine.specs.Served.{AreAnswered, Served, StoppedAt, Ended}
 use Rattle.mv_lines.specs.Sessions.{Open}
-use Rattle.mv_show.specs.Showing.{IsPassed, LeadsTo, Untaken}
+use Rattle.mv_show.specs.Showing.{IsPassed, Unshown}
 
 -- lines to which nothing is written have no text
 no_texts : (before : Open) (lines : List Line) (texts : List (Option (List ℕ))) (after : Open) → AreReplies IsPassed before lines texts after → said_texts texts ≡ []
@@ -19,44 +20,56 @@ no_texts before (line ∷ lines) (text ∷ texts) after (between, passed, rest) 
 silent : (before : Open) (ps : List (List ℕ)) (after : Open) (out : List ℕ) → AreAnswered IsPassed 0 before ps after out → AreAnswered IsPassed 0 before ps after []
 silent before ps after out answered = search (rules, no_texts)
 
--- an input that was answered whole leads on
-pub taken_whole : (input : Option (List ℕ)) (before after : Open) (old new : Option (List ℕ))
-    → IfSome input (λ bytes. Served IsPassed before bytes after old new) → IfSome input (λ bytes. LeadsTo before bytes after)
-taken_whole None before after old new served = tt
-taken_whole (Some bytes) before after old new served = silent before (pieces bytes) after served.out served.answered
+-- an input that was answered whole was taken whole
+pub taken_whole : (input : Option (List ℕ)) (before after : Open) (old new : Option (List ℕ)) → before ≡ None
+    → IfSome input (λ bytes. Served IsPassed before bytes after old new) → IfSome input (λ bytes. AreAnswered IsPassed 0 None (pieces bytes) after [])
+taken_whole None before after old new none served = tt
+taken_whole (Some bytes) before after old new none served = rw none at (silent before (pieces bytes) after served.0 served.2)
 
 -- it stopped at a place, and nothing was written
 stopped_in_silence : (fault : ServeFault) (before after : Open) (bytes out : List ℕ) → StoppedAt IsPassed fault [] 0 before bytes after out
     → StoppedAt IsPassed fault [] 0 before bytes after []
 stopped_in_silence fault before after bytes out stopped = search (rules, silent)
 
--- why the answering of lines ended is why they were not taken
-untaken : (fault : ServeFault) (before : Open) (bytes : List ℕ) (old new : Option (List ℕ)) → fault ≢ Write → Ended IsPassed fault before bytes old new
-    → Untaken fault before bytes
-untaken Read before bytes old new other at_end = at_end.ended.0
-untaken Write before bytes old new other ended = absurd (other refl)
-untaken fault before bytes old new other at_end = (at_end.after, stopped_in_silence fault before at_end.after bytes at_end.ended.0 at_end.ended.2)
+-- the answering of lines ended, and nothing was written
+ended_in_silence : (fault : ServeFault) (before : Open) (bytes : List ℕ) (old new contents : Option (List ℕ)) → fault ≢ Write
+    → Ended IsPassed fault before bytes old new → Ended IsPassed fault before bytes contents contents
+ended_in_silence Read before bytes old new contents other at_end =
+    (at_end.0, (at_end.1.0, ([], Appends-nil contents, silent before _ at_end.0 at_end.1.1.0 at_end.1.1.2)))
+ended_in_silence Write before bytes old new contents other at_end = absurd (other refl)
+ended_in_silence fault before bytes old new contents other at_end =
+    (at_end.0, ([], Appends-nil contents, stopped_in_silence fault before at_end.0 bytes at_end.1.0 at_end.1.2))
 
-pub taken_in_part : (fault : ServeFault) (before : Open) (input rest old new : Option (List ℕ)) → fault ≢ Write
-    → (bytes : List ℕ) × Consumes input rest bytes × Ended IsPassed fault before bytes old new → (bytes : List ℕ) × Consumes input rest bytes × Untaken fault before bytes
-taken_in_part fault before input rest old new other (bytes, took, ended) = (bytes, took, untaken fault before bytes old new other ended)
+-- why the answering of lines ended is why nothing is shown
+pub not_shown : (fault : ServeFault) (before : Open) (input rest old new contents : Option (List ℕ)) → fault ≢ Write → before ≡ None
+    → (bytes : List ℕ) × Consumes input rest bytes × Ended IsPassed fault before bytes old new → Unshown fault input rest contents contents
+not_shown Write before input rest old new contents other none at_end = absurd (other refl)
+not_shown Memory before input rest old new contents other none (bytes, took, ended) =
+    inl (bytes, took, ended_in_silence Memory None bytes old new contents other (rw none at ended), Appends-nil contents)
+not_shown fault before input rest old new contents other none (bytes, took, ended) =
+    (bytes, took, ended_in_silence fault None bytes old new contents other (rw none at ended), Appends-nil contents)
 
 -- memory may be refused before anything was taken
-pub refused_at_once : (before : Open) (input rest : Option (List ℕ)) (bytes : List ℕ) → Consumes input rest bytes
-    → (bytes : List ℕ) × Consumes input rest bytes × Untaken Memory before bytes
-refused_at_once before input rest bytes took = (
+pub refused_at_once : (input rest contents : Option (List ℕ)) (bytes : List ℕ) → Consumes input rest bytes → Unshown Memory input rest contents contents
+refused_at_once input rest contents bytes took = inl (
   bytes,
   took,
   (
-    before,
-    record {
-      good = [];
-      bad = bytes;
-      cut = refl;
-      why = tt;
-      behind = before;
-      answered = record { kept = record { few = omega (arith); short = λ k d below. omega (arith, below) }; replied = ([], refl, refl) };
-      left = inl refl;
-    },
+    None,
+    (
+      [],
+      Appends-nil contents,
+      record {
+        good = [];
+        bad = bytes;
+        cut = refl;
+        why = tt;
+        behind = None;
+        answered = record { kept = record { few = omega (arith); short = λ k d below. omega (arith, below) }; replied = ([], refl, refl) };
+        left = inl refl;
+        left_alone = λ other. refl;
+      },
+    ),
   ),
+  Appends-nil contents,
 )

@@ -1,8 +1,8 @@
 -- What the log of a repository names, and in which order.
 use Rattle.std.specs.Prelude.{List, [], ◌∷◌, ◌++◌, map, Bool, true, false, bytes_eq}
-use Rattle.mv_show.specs.Words.{flat_map, is_same_pack, is_same_batch, pack_key, Message, Master, Upload, Recall as ARecall, Withdraw, LogEntry, Subject, Party, Product, Pack}
+use Rattle.mv_show.specs.Words.{flat_map, is_same_pack, is_same_batch, pack_key, Master, Upload, Recall as ARecall, Withdraw, LogEntry, Subject, Party, Product, Pack}
 use Rattle.mv_link.specs.declared.item.Item.{Item}
-use Rattle.mv_link.specs.declared.item.Item.TheVariants.{Receipt, Carried}
+use Rattle.mv_link.specs.declared.item.Item.TheVariants.{Carried}
 use Rattle.mv_hub.specs.Listing.{distinct}
 use Rattle.mv_show.specs.declared.subject.Kind.{Kind}
 use Rattle.mv_show.specs.declared.subject.Kind.TheVariants as kinds
@@ -16,22 +16,18 @@ is_same_subject (Recall first) (Recall second) = is_same_batch first second
 is_same_subject (Pack first) (Pack second) = is_same_pack first second
 is_same_subject _ _ = false
 
--- what a message names: a product by a master or a withdrawal, a batch by a recall, and packs by an upload, in the order of its list
-abbrev pub named_in : Kind → Message → List Subject
-named_in kinds.Products (Master gtin product) = Product gtin ∷ []
-named_in kinds.Products (Withdraw gtin at) = Product gtin ∷ []
-named_in kinds.Recalls (ARecall key at) = Recall key ∷ []
-named_in kinds.Packs (Upload gtin batch expiry national serials) = map (λ serial. Pack (pack_key gtin serial)) serials
-named_in kind message = []
-
--- what the message names that an item carries
-abbrev pub named_by : Kind → Item → List Subject
-named_by kind (Carried k stamp message) = named_in kind message
-named_by kind (Receipt k reach query) = []
+-- what an item names by its message: a product by a master or a withdrawal, a batch by a recall, and packs by an upload, in the order of
+-- its list
+abbrev pub named_in : Kind → Item → List Subject
+named_in kinds.Products (Carried k stamp (Master gtin product)) = Product gtin ∷ []
+named_in kinds.Products (Carried k stamp (Withdraw gtin at)) = Product gtin ∷ []
+named_in kinds.Recalls (Carried k stamp (ARecall key at)) = Recall key ∷ []
+named_in kinds.Packs (Carried k stamp (Upload gtin batch expiry national serials)) = map (λ serial. Pack (pack_key gtin serial)) serials
+named_in kind item = []
 
 -- all that the entries of a log name, in the order of the log
 abbrev pub named_of : Kind → List LogEntry → List Subject
-named_of kind log = flat_map (λ entry. named_by kind entry.item) log
+named_of kind log = flat_map (λ entry. named_in kind entry.item) log
 
 -- What the lines of a party tell of: the party itself, then the products, the recalled batches and the packs that its log names, each
 -- in the order of their first naming, and once.

@@ -6,7 +6,7 @@ ghost use Rattle.std.specs.Io.KnownBytes.{Appends};
 ghost use Rattle.mv_machine.specs.State.{is_party};
 ghost use Rattle.mv_engine.specs.Output.{WrotePart};
 ghost use Rattle.mv_show.specs.Blocks.{Passes, EndsWriting};
-ghost use Rattle.mv_show.specs.Shown.{party_values, shown_text, lines_text};
+ghost use Rattle.mv_show.specs.Shown.{party_rows, shown_rows, lines_text};
 
 use crate::lines::Lines;
 use crate::link_lines::{append_links, party_count};
@@ -26,9 +26,9 @@ pub(crate) fn write_shown<W: Write>(
 ) -> Result<bool, ServeFault>
     ensures open { IfOk result (λ is_open. is_open ≡ is_some world.entry) }
     ensures ok { OnOk result (Appends (W.contents writer.old) (W.contents writer.new)
-        (shown_text (option_copied world.entry))) }
+        (lines_text (shown_rows (option_copied world.entry)))) }
     ensures fault { IfErr result EndsWriting }
-    ensures err { IfErr result (λ _. WrotePart (shown_text (option_copied world.entry))
+    ensures err { IfErr result (λ _. WrotePart (lines_text (shown_rows (option_copied world.entry)))
         (W.contents writer.old) (W.contents writer.new)) }
 {
     match world {
@@ -41,9 +41,9 @@ pub(crate) fn write_shown<W: Write>(
 /// Writes that no system is open.
 fn write_not_open<W: Write>(alloc: Global, writer: &mut W) -> Result<(), ServeFault>
     ensures ok { OnOk result (Appends (W.contents writer.old) (W.contents writer.new)
-        (shown_text None)) }
+        (lines_text (shown_rows None))) }
     ensures fault { IfErr result EndsWriting }
-    ensures err { IfErr result (λ _. WrotePart (shown_text None)
+    ensures err { IfErr result (λ _. WrotePart (lines_text (shown_rows None))
         (W.contents writer.old) (W.contents writer.new)) }
 {
     let mut ready = Lines::new(alloc);
@@ -54,9 +54,9 @@ fn write_not_open<W: Write>(alloc: Global, writer: &mut W) -> Result<(), ServeFa
 /// Writes what stands of a system: of each party, and then of each link.
 fn write_world<W: Write>(alloc: Global, world: &World, writer: &mut W) -> Result<(), ServeFault>
     ensures ok { OnOk result (Appends (W.contents writer.old) (W.contents writer.new)
-        (shown_text (Some world.now))) }
+        (lines_text (shown_rows (Some world.now)))) }
     ensures fault { IfErr result EndsWriting }
-    ensures err { IfErr result (λ _. WrotePart (shown_text (Some world.now))
+    ensures err { IfErr result (λ _. WrotePart (lines_text (shown_rows (Some world.now)))
         (W.contents writer.old) (W.contents writer.new)) }
 {
     let mut ready = Lines::new(alloc);
@@ -80,10 +80,10 @@ fn write_party<W: Write>(
 ) -> Result<(), ServeFault>
     requires { IsTrue (is_party world.now party) }
     ensures ok { OnOk result (Passes (W.contents writer.old) (W.contents writer.new)
-        (ready.old ++ lines_text (party_values world.now party)) ready.new) }
+        (ready.old ++ lines_text (party_rows world.now party)) ready.new) }
     ensures fault { IfErr result EndsWriting }
     ensures err { IfErr result (λ _. WrotePart
-        (ready.old ++ lines_text (party_values world.now party))
+        (ready.old ++ lines_text (party_rows world.now party))
         (W.contents writer.old) (W.contents writer.new)) }
 {
     let subjects = subjects_of(ready.alloc, world.log(party))?;

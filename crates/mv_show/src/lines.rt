@@ -2,10 +2,11 @@
 
 ghost use Rattle.std.specs.Prelude.{◌≡◌, ◌++◌, ◌∷◌, [], IfErr, OnOk};
 ghost use Rattle.serde_json.specs.Data.{object};
+ghost use Rattle.serde_json.specs.Written.{compact_text};
 ghost use Rattle.mv_engine.specs.Output.{WrotePart};
+ghost use Rattle.mv_engine.specs.Replies.{text_lines};
 ghost use Rattle.mv_format.specs.Writing.{members_of};
 ghost use Rattle.mv_show.specs.Blocks.{Passes};
-ghost use Rattle.mv_show.specs.Shown.{lines_text};
 
 use mv_lines::{Member, ServeFault, append_object, put_out};
 use std::alloc::{AllocError, Global};
@@ -53,7 +54,7 @@ impl Lines {
     /// Adds the line that is the object of these members, which come in byte order of their keys.
     pub(crate) fn push(&mut self, members: &[Member<'_>]) -> Result<(), AllocError>
         ensures { OnOk result (self.new
-            ≡ self.old ++ lines_text (object (members_of members.now) ∷ [])) }
+            ≡ self.old ++ text_lines (compact_text (object (members_of members.now)) ∷ [])) }
     {
         append_object(self.alloc, &mut self.text, members)?;
         self.text.push(b'\n')?;

@@ -1,9 +1,10 @@
 //! The lines that tell of the links.
 
-ghost use Rattle.std.specs.Prelude.{◌≡◌, ◌==◌, ◌++◌, ◌∷◌, [], filter, length, IfOk, OnOk, IsTrue};
+ghost use Rattle.std.specs.Prelude.{◌≡◌, ◌==◌, ◌++◌, ◌∷◌, [], filter, flat_map, length, IfOk, OnOk, IsTrue};
+ghost use Rattle.std.specs.List.{range_with_len};
 ghost use Rattle.mv_hub.specs.Hub.{are_parties};
 ghost use Rattle.mv_machine.specs.State.{is_party, applied_count, wire_of};
-ghost use Rattle.mv_show.specs.Shown.{link_value, link_values, links_values, lines_text};
+ghost use Rattle.mv_show.specs.Shown.{link_row, link_rows, lines_text};
 
 use crate::lines::Lines;
 use mv_lines::Member;
@@ -15,8 +16,8 @@ use std::alloc::{AllocError, Global};
 /// Writes the lines of the links from a party behind those that stand ready.
 pub(crate) fn append_links(lines: &mut Lines, world: &World, from: Party) -> Result<(), AllocError>
     requires { IsTrue (is_party world.now from) }
-    ensures { OnOk result (lines.new
-        ≡ lines.old ++ lines_text (links_values world.now from)) }
+    ensures { OnOk result (lines.new ≡ lines.old ++ lines_text (flat_map (link_rows world.now from)
+        (range_with_len 0 (length world.now.hub.parties)))) }
 {
     for to in 0..party_count(world) {
         append_link(lines, world, from, to)?;
@@ -35,7 +36,7 @@ pub(crate) fn party_count(world: &World) -> u32
 fn append_link(lines: &mut Lines, world: &World, from: Party, to: Party) -> Result<(), AllocError>
     requires { IsTrue (are_parties world.now.hub from to) }
     ensures { OnOk result (lines.new
-        ≡ lines.old ++ lines_text (link_values world.now from to)) }
+        ≡ lines.old ++ lines_text (link_rows world.now from to)) }
 {
     let hub = world.hub();
     if hub.total(from, to) == 0 && hub.is_open(from, to) {
@@ -53,7 +54,7 @@ fn append_shown_link(
 ) -> Result<(), AllocError>
     requires { IsTrue (are_parties world.now.hub from to) }
     ensures { OnOk result (lines.new
-        ≡ lines.old ++ lines_text (link_value world.now from to ∷ [])) }
+        ≡ lines.old ++ lines_text (link_row world.now from to ∷ [])) }
 {
     let hub = world.hub();
     let wire = wire_of(lines.alloc, world, from, to)?;

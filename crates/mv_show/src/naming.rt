@@ -4,7 +4,7 @@ ghost use Rattle.std.specs.Prelude.{◌≡◌, ◌∷◌, [], map, IfOk, OnOk};
 ghost use Rattle.mv_pack.specs.Keys.{pack_key};
 ghost use Rattle.indexmap.specs.IndexSet.{insert_all};
 ghost use Rattle.mv_show.specs.declared.subject.Subject.TheVariants.{Pack};
-ghost use Rattle.mv_show.specs.Subjects.{is_same_subject, named_by, named_of, subjects_of};
+ghost use Rattle.mv_show.specs.Subjects.{is_same_subject, named_in, named_of, subjects_of};
 
 use crate::subject::{Kind, Subject};
 use indexmap::IndexSet;
@@ -44,7 +44,7 @@ fn note_named(
 /// Notes what an item names.
 fn note_item(subjects: &mut IndexSet<Subject>, item: &Item, kind: Kind) -> Result<(), AllocError>
     ensures { OnOk result (subjects.new.keys
-        ≡ insert_all is_same_subject subjects.old.keys (named_by kind item.now)) }
+        ≡ insert_all is_same_subject subjects.old.keys (named_in kind item.now)) }
 {
     let Item::Carried { message, .. } = item else {
         return Ok(());

@@ -1,12 +1,13 @@
 //! The lines that tell of a party and of what its repository holds.
 
-ghost use Rattle.std.specs.Prelude.{◌≡◌, ◌++◌, ◌∷◌, [], Some, option_map, OnOk, IsTrue};
+ghost use Rattle.std.specs.Prelude.{◌≡◌, ◌++◌, ◌∷◌, [], Some, option_map, option_to_list, OnOk, IsTrue};
+ghost use Rattle.std.specs.Option.{option_map_or};
 ghost use Rattle.mv_pack.specs.Expiry.{expiry_text};
 ghost use Rattle.mv_machine.specs.State.{is_party};
+ghost use Rattle.mv_repository.specs.Pack.{pack_state};
 ghost use Rattle.mv_repository.specs.Repository.{product_of};
-ghost use Rattle.mv_repository.specs.State.{user_at, user_in};
-ghost use Rattle.mv_show.specs.Shown.{subject_values, party_value, product_value, recall_value};
-ghost use Rattle.mv_show.specs.Shown.{user_of, pack_value, pack_values, lines_text};
+ghost use Rattle.mv_repository.specs.Stops.{entry_at};
+ghost use Rattle.mv_show.specs.Shown.{subject_rows, party_row, product_row, recall_row, pack_row, lines_text, user_in};
 
 use crate::lines::Lines;
 use crate::subject::Subject;
@@ -28,7 +29,7 @@ pub(crate) fn append_subject(
 ) -> Result<(), AllocError>
     requires { IsTrue (is_party world.now party) }
     ensures { OnOk result (lines.new
-        ≡ lines.old ++ lines_text (subject_values world.now party subject.now)) }
+        ≡ lines.old ++ lines_text (subject_rows world.now party subject.now)) }
 {
     match subject {
         Subject::Party => append_party(lines, world, party),
@@ -42,7 +43,7 @@ pub(crate) fn append_subject(
 fn append_party(lines: &mut Lines, world: &World, party: Party) -> Result<(), AllocError>
     requires { IsTrue (is_party world.now party) }
     ensures { OnOk result (lines.new
-        ≡ lines.old ++ lines_text (party_value world.now party ∷ [])) }
+        ≡ lines.old ++ lines_text (party_row world.now party ∷ [])) }
 {
     let counts = world.repository(party).counts();
     let routed = world.hub().routed_count(party);
@@ -63,7 +64,7 @@ fn append_party(lines: &mut Lines, world: &World, party: Party) -> Result<(), Al
 /// Writes what a repository knows of a product.
 fn append_product(lines: &mut Lines, repository: &Repository, gtin: &Gtin) -> Result<(), AllocError>
     ensures { OnOk result (lines.new ≡ lines.old
-        ++ lines_text (product_value repository.now.party repository.now.log gtin.now ∷ [])) }
+        ++ lines_text (product_row repository.now.party repository.now.log gtin.now ∷ [])) }
 {
     match repository.product(gtin) {
         Some(product) => {
@@ -93,7 +94,7 @@ fn append_master<'a>(
     requires { Some master.now
         ≡ option_map (Message.Master gtin.now) (product_of repository.now.log gtin.now) }
     ensures { OnOk result (lines.new ≡ lines.old
-        ++ lines_text (product_value repository.now.party repository.now.log gtin.now ∷ [])) }
+        ++ lines_text (product_row repository.now.party repository.now.log gtin.now ∷ [])) }
 {
     lines.push(&[
         Member::Text("gtin", gtin.as_str()),
@@ -107,7 +108,7 @@ fn append_master<'a>(
 /// Writes that a batch is recalled.
 fn append_recall(lines: &mut Lines, party: Party, key: &BatchKey) -> Result<(), AllocError>
     ensures { OnOk result (lines.new
-        ≡ lines.old ++ lines_text (recall_value party key.now ∷ [])) }
+        ≡ lines.old ++ lines_text (recall_row party key.now ∷ [])) }
 {
     lines.push(&[
         Member::Text("batch", key.batch.as_str()),
@@ -119,8 +120,9 @@ fn append_recall(lines: &mut Lines, party: Party, key: &BatchKey) -> Result<(), 
 
 /// Writes what a pack is, where the repository holds it.
 fn append_pack(lines: &mut Lines, repository: &Repository, key: &PackKey) -> Result<(), AllocError>
-    ensures { OnOk result (lines.new ≡ lines.old
-        ++ lines_text (pack_values repository.now.party repository.now.log key.now)) }
+    ensures { OnOk result (lines.new ≡ lines.old ++ lines_text (option_to_list (option_map
+        (pack_row repository.now.party repository.now.log key.now)
+        (pack_state key.now repository.now.log)))) }
 {
     match repository.pack(key) {
         Some(held) => {
@@ -149,7 +151,7 @@ fn append_held<'a>(
 ) -> Result<(), AllocError>
     requires { dated.now.expiry.bytes ≡ expiry_text dated.now.held.expiry }
     ensures { OnOk result (lines.new ≡ lines.old ++ lines_text
-        (pack_value repository.now.party repository.now.log key.now dated.now.held ∷ [])) }
+        (pack_row repository.now.party repository.now.log key.now dated.now.held ∷ [])) }
 {
     let held = &dated.held;
     let batch = BatchKey {
@@ -174,7 +176,7 @@ fn append_held<'a>(
 
 /// The user who asked for a change.
 fn user_of<'a>(log: &'a [LogEntry], change: &Option<Change>) -> &'a str
-    ensures { result.now ≡ user_of log.now change.now }
+    ensures { result.now ≡ option_map_or (λ change. user_in (entry_at log.now change.entry).entry.item) change.now [] }
 {
     match change {
         Some(change) => user_at(log, change.entry),
@@ -184,7 +186,7 @@ fn user_of<'a>(log: &'a [LogEntry], change: &Option<Change>) -> &'a str
 
 /// The user of the status at a place of a log.
 fn user_at(log: &[LogEntry], place: usize) -> &str
-    ensures { result.now ≡ user_at log.now place }
+    ensures { result.now ≡ user_in (entry_at log.now place).entry.item }
 {
     match log.get(place) {
         Some(entry) => user_in(&entry.item),

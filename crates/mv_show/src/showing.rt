@@ -1,8 +1,9 @@
 //! Shows what stands when an input ends.
 
-ghost use Rattle.std.specs.Prelude.{ℕ, List, IfOk, IfErr, OnOk, IfSome};
-ghost use Rattle.std.specs.Io.KnownBytes.{Consumes};
-ghost use Rattle.mv_show.specs.Showing.{LeadsTo, Shows, Untaken, Unshown};
+ghost use Rattle.std.specs.Prelude.{◌≡◌, ℕ, List, [], Option, None, IfOk, IfErr, OnOk, IfSome};
+ghost use Rattle.mv_engine.specs.Lines.{pieces};
+ghost use Rattle.mv_engine.specs.Served.{AreAnswered};
+ghost use Rattle.mv_show.specs.Showing.{IsPassed, Shows, Unshown};
 
 use crate::blocks::write_shown;
 use crate::passing::Passing;
@@ -40,11 +41,12 @@ fn take_lines<R: Read>(
     passing: &mut Passing,
     reader: &mut R,
 ) -> Result<(), ServeFault>
+    requires { passing.old ≡ None }
     ensures ok { OnOk result (IfSome (R.remaining reader.old) (λ bytes.
-        LeadsTo passing.old bytes passing.new)) }
-    ensures err { IfErr result (λ fault. (bytes : List ℕ)
-        × Consumes (R.remaining reader.old) (R.remaining reader.new) bytes
-        × Untaken fault passing.old bytes) }
+        AreAnswered IsPassed 0 None (pieces bytes) passing.new [])) }
+    // Whatever is written to stays as it was.
+    ensures err { IfErr result (λ fault. (contents : Option (List ℕ))
+        → Unshown fault (R.remaining reader.old) (R.remaining reader.new) contents contents) }
 {
     match answer_lines(alloc, passing, reader, &mut io::sink()) {
         Ok(()) => Ok(()),

@@ -13,7 +13,7 @@ use Rattle.mv_report.specs.Report.{report_text}
 use Rattle.mv_plan.specs.Planning.{Planned}
 use Rattle.mv_plan.specs.Reading.{IsRead}
 use Rattle.mv_engine.specs.Output.{WrotePart}
-use Rattle.mv_tool.specs.Working.{end_line, parts_of, report_of, output_of, IsReported, IsOutput, IsWorked, Worked, Failed}
+use Rattle.mv_tool.specs.Working.{end_line, parts_of, report_of, output_of, IsOutput, Worked, Failed}
 use Rattle.std.specs.Io.KnownBytes.{Appends, Keeps}
 
 -- a plan of parts that can be run can be run
@@ -25,7 +25,7 @@ sound_of plan parts same runs =
 -- what is written of an outcome of a plan is its report
 reported_as : (output : Output) (plan : Plan) (outcome : State) (finished : Bool) → KeepsPlan plan outcome → IsTrue finished ↔ IsComplete plan outcome
     → report_of finished outcome ≡ (string_bytes output.text, output.finished)
-    → IsReported (parts_of plan) (string_bytes output.text) output.finished
+    → IsOutput (Ok (Some (parts_of plan))) (string_bytes output.text) output.finished
 reported_as output plan outcome finished keeps complete is =
     let done : finished ≡ output.finished = ap (λ (it : List ℕ × Bool). it.1) is in
     let text = sym (ap (λ (it : List ℕ × Bool). it.0) is) ∙ ap (λ told. report_text outcome ++ end_line told) done in
@@ -35,7 +35,7 @@ reported_as output plan outcome finished keeps complete is =
 pub run_reported : (output : Output) (plan : Plan) (ran : Result State WorkFault)
     → IfOk ran (λ outcome. IsSound plan × KeepsPlan plan outcome × IsComplete plan outcome) → IfErr ran (λ fault. Faults plan fault)
     → output_of ran ≡ Ok (string_bytes output.text, output.finished)
-    → IsReported (parts_of plan) (string_bytes output.text) output.finished
+    → IsOutput (Ok (Some (parts_of plan))) (string_bytes output.text) output.finished
 run_reported output plan (Ok outcome) kept fails is = reported_as output plan outcome true kept.1 (λ told. kept.2, λ complete. refl) (cc)
 run_reported output plan (Err (faults.Unfinished outcome)) kept fails is =
     reported_as output plan outcome false fails.1 (λ told. absurd (true≢false (sym told)), λ complete. absurd (fails.2 complete)) (cc)
@@ -56,18 +56,18 @@ run_fails fault planned plan (Err faults.Plan) plans (inr is) = inr (cc, (plan, 
 -- the output of an input that was read went out
 pub worked_whole : (input : Option (List ℕ)) (planned : Planned) (old new : Option (List ℕ)) (text out : List ℕ) (finished : Bool)
     → IfSome input (λ bytes. IsRead bytes planned) → IsOutput planned text finished → out ≡ text → Appends old new out
-    → IfSome input (λ bytes. Worked bytes finished old new)
+    → IfSome input (λ bytes. Worked bytes finished (Appends old new))
 worked_whole None planned old new text out finished read output same written = tt
 worked_whole (Some bytes) planned old new text out finished read output same written =
-    (text, (planned, read, output), subst (Appends old new) same written)
+    (planned, text, read, output, subst (Appends old new) same written)
 
 -- the first bytes of the output of an input that was read went out
 pub worked_part : (input : Option (List ℕ)) (planned : Planned) (old new : Option (List ℕ)) (text out : List ℕ) (finished : Bool)
     → IfSome input (λ bytes. IsRead bytes planned) → IsOutput planned text finished → out ≡ text → WrotePart out old new
-    → IfSome input (λ bytes. (whole : List ℕ) × (done : Bool) × IsWorked bytes whole done × WrotePart whole old new)
+    → IfSome input (λ bytes. (done : Bool) × Worked bytes done (λ whole. WrotePart whole old new))
 worked_part None planned old new text out finished read output same written = tt
 worked_part (Some bytes) planned old new text out finished read output same written =
-    (text, finished, (planned, read, output), subst (λ l. WrotePart l old new) same written)
+    (finished, (planned, text, read, output, subst (λ l. WrotePart l old new) same written))
 
 -- what is not written to is kept
 keeps_itself : (contents : Option (List ℕ)) → Keeps contents contents

@@ -1,6 +1,6 @@
 -- What `work` writes.
 use Rattle.std.specs.Prelude.{◌≡◌, ◌↔◌, ℕ, List, ◌∷◌, [], ◌++◌, codes, Bool, true, false, IsTrue, if◌then◌else◌, Option, Some, None, Result, Ok, Err, IfSome}
-use Rattle.std.specs.Io.KnownBytes.{Appends, Keeps}
+use Rattle.std.specs.Io.KnownBytes.{Keeps}
 use Rattle.serde_json.specs.Written.{compact_text}
 use Rattle.mv_machine.specs.State.{State}
 use Rattle.mv_workers.specs.declared.plan.Plan.{Plan}
@@ -38,31 +38,23 @@ output_of (Err faults.Plan) = Err Start
 abbrev pub parts_of : Plan → Parts
 parts_of plan = record { parties = plan.parties; limits = plan.limits; work = plan.work }
 
--- The output is the report of an outcome of the plan, and says that it is finished exactly where that is complete.
-abbrev pub IsReported : Parts → List ℕ → Bool → Type 0
-IsReported parts out finished =
-    (plan : Plan) × (outcome : State) × (parts_of plan ≡ parts) × KeepsPlan plan outcome × (IsTrue finished ↔ IsComplete plan outcome)
-    × (out ≡ report_text outcome ++ end_line finished)
-
--- the output of what some lines plan, and whether the plan was finished: a refusal, that no line has opened a plan, or a report
+-- The output of what some lines plan, and whether the plan was finished: a refusal, that no line has opened a plan, or the report of an
+-- outcome of the plan, which says that it is finished exactly where that is complete.
 abbrev pub IsOutput : Planned → List ℕ → Bool → Type 0
 IsOutput (Err text) out finished = (out ≡ text ++ 10 ∷ []) × (finished ≡ false)
 IsOutput (Ok None) out finished = (out ≡ compact_text (refused (code_of NotOpen)) ++ 10 ∷ []) × (finished ≡ false)
-IsOutput (Ok (Some parts)) out finished = IsReported parts out finished
+IsOutput (Ok (Some parts)) out finished =
+    (plan : Plan) × (outcome : State) × (parts_of plan ≡ parts) × KeepsPlan plan outcome × (IsTrue finished ↔ IsComplete plan outcome)
+    × (out ≡ report_text outcome ++ end_line finished)
 
--- the output of an input that was read whole, and whether its plan was finished
-abbrev pub IsWorked : List ℕ → List ℕ → Bool → Type 0
-IsWorked bytes out finished = (planned : Planned) × IsRead bytes planned × IsOutput planned out finished
-
--- the output of an input went out
-abbrev pub Worked : List ℕ → Bool → Option (List ℕ) → Option (List ℕ) → Type 0
-Worked bytes finished old new = (out : List ℕ) × IsWorked bytes out finished × Appends old new out
+-- an input was read whole, the fact holds of its output, and whether its plan was finished
+abbrev pub Worked : List ℕ → Bool → (List ℕ → Type 0) → Type 0
+Worked bytes finished Went = (planned : Planned) × (out : List ℕ) × IsRead bytes planned × IsOutput planned out finished × Went out
 
 -- What a run that ended by a fault has written. Where a write failed: the first bytes of an output of the input. Else nothing: the
 -- input was not read, or memory was refused; or, only where the input is a plan, it could not be started.
 abbrev pub Failed : ServeFault → Option (List ℕ) → Option (List ℕ) → Option (List ℕ) → Option (List ℕ) → Type 0
-Failed Write input rest old new =
-    IfSome input (λ bytes. (out : List ℕ) × (finished : Bool) × IsWorked bytes out finished × WrotePart out old new)
+Failed Write input rest old new = IfSome input (λ bytes. (finished : Bool) × Worked bytes finished (λ out. WrotePart out old new))
 Failed Start input rest old new = Keeps old new × IfSome input (λ bytes. (parts : Parts) × IsRead bytes (Ok (Some parts)))
 Failed Memory input rest old new = Keeps old new
 Failed fault input rest old new = Keeps old new × Unread fault input rest

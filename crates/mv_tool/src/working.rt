@@ -1,6 +1,7 @@
 //! Carries out a plan, and reports.
 
 ghost use Rattle.std.specs.Prelude.{◌≡◌, ◌++◌, ◌∷◌, [], ◌⊎◌, false, IfOk, IfErr, IfSome, string_bytes};
+ghost use Rattle.std.specs.Io.KnownBytes.{Appends};
 ghost use Rattle.mv_workers.specs.Plans.{IsSound};
 ghost use Rattle.mv_plan.specs.Planning.{planned_of};
 ghost use Rattle.mv_plan.specs.Drafts.{Parts};
@@ -42,7 +43,7 @@ pub fn work<H: Threads + Wait + Sync, R: Read, W: Write, G: Gate>(
     gate: &G,
 ) -> Result<bool, ServeFault>
     ensures ok { IfOk result (λ finished. IfSome (R.remaining reader.old) (λ bytes.
-        Worked bytes finished (W.contents writer.old) (W.contents writer.new))) }
+        Worked bytes finished (Appends (W.contents writer.old) (W.contents writer.new)))) }
     ensures err { IfErr result (λ fault. Failed fault (R.remaining reader.old) (R.remaining reader.new)
         (W.contents writer.old) (W.contents writer.new)) }
 {

@@ -1,8 +1,8 @@
 -- The events of a run tell the record, the logs and the submissions.
 use Rattle.std.proofs.Common.{◌≡◌, ℕ, zero, suc, ◌+◌, List, [], ◌∷◌, ◌++◌, map, length, Some, None, refl, sym, ap, ◌∙◌, append-nil, append_assoc, get_or, arith, rules}
-use Rattle.mv_trail.proofs.Words.{nat_tests, Step, Reply, State, opening, submissions_of, log_of, IsSound, change-sound, opening-sound, step-changes, SiteState, new_site, Answered, Line, AreReplies, said_texts, Open, IsTaken, Event, event_of, AreTold, placed, entry_told, applied_told, submission_told, unless_answer, EventsAreWritten, RecordIsTold, LogsAreTold, SubmissionsAreTold, IsEvent, event_text}
+use Rattle.mv_trail.proofs.Words.{nat_tests, Step, Reply, State, opening, submissions_of, log_of, IsSound, change-sound, opening-sound, step-changes, SiteState, new_site, Answered, Line, AreReplies, said_texts, Open, IsTaken, Event, event_of, AreTold, entry_told, applied_told, submission_told, unless_answer, EventsAreWritten, RecordIsTold, LogsAreTold, SubmissionsAreTold, IsEvent, event_text}
 use Rattle.std.specs.Prelude.{option_map, option_to_list, Option, ⊤}
-use Rattle.std.specs.List.{filter_map, range_with_len}
+use Rattle.std.specs.List.{enumerate_from, filter_map, range_with_len}
 use Rattle.mv_machine.specs.Limits.{Bounds}
 use Rattle.mv_machine.specs.Runs.{Allows}
 use Rattle.mv_format.specs.declared.answered.Answered.TheVariants as answers
@@ -66,7 +66,7 @@ module _ {X : Type 0} (tell : Event → Option X) (kept : State → List X)
   run-told lines events st are = sym (lines-told lines events None (Some st) tt are)
 
 pub record_is_told : RecordIsTold
-record_is_told = run-told entry_told (λ st. placed 0 st.hub.entries) (λ parties limits. refl) (λ parties limits. refl) (λ st sound. record_told st)
+record_is_told = run-told entry_told (λ st. enumerate_from 1 st.hub.entries) (λ parties limits. refl) (λ parties limits. refl) (λ st sound. record_told st)
 
 -- each party begins with nothing
 none-at : {A : Type 0} (shown : SiteState → List A) (make : ℕ → SiteState) → ((party : ℕ) → shown (make party) ≡ []) → shown (new_site 0 0 0) ≡ []
@@ -83,8 +83,8 @@ logs_are_told party =
 
 pub submissions_are_told : SubmissionsAreTold
 submissions_are_told party =
-    run-told (submission_told party) (λ st. placed 0 (map unless_answer (submissions_of st party)))
-    (λ parties limits. none-at (λ site. placed 0 (map unless_answer site.submissions)) (λ party. new_site party (length parties) limits.submissions) (λ _. refl) refl 0 (length parties) party)
+    run-told (submission_told party) (λ st. enumerate_from 1 (map unless_answer (submissions_of st party)))
+    (λ parties limits. none-at (λ site. enumerate_from 1 (map unless_answer site.submissions)) (λ party. new_site party (length parties) limits.submissions) (λ _. refl) refl 0 (length parties) party)
     (λ parties limits. refl) (λ st sound. submissions_told party st sound.well_formed)
 
 -- the events that are each told with the number of a line, and their texts

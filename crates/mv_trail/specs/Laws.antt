@@ -1,8 +1,8 @@
 -- The laws of the trail: what is written are the events of a run, and these are the hub's record, the log of each repository, and what each
 -- party submitted.
-use Rattle.std.specs.Prelude.{◌≡◌, ◌+◌, ◌==◌, ℕ, List, [], ◌∷◌, ◌++◌, map, if◌then◌else◌, option_to_list, Option, Some, None}
+use Rattle.std.specs.Prelude.{◌≡◌, ◌==◌, ℕ, List, [], ◌∷◌, ◌++◌, map, if◌then◌else◌, option_to_list, Option, Some, None}
 use Rattle.mv_trail.specs.Words.{Message, Query, Answer, Entry, LogEntry, State, submissions_of, log_of, Line, Open, IsTaken, Answered}
-use Rattle.std.specs.List.{filter_map}
+use Rattle.std.specs.List.{enumerate_from, filter_map}
 use Rattle.mv_hub.specs.declared.entry.Entry.TheVariants as entries
 use Rattle.mv_engine.specs.Replies.{IsReplies, text_lines}
 use Rattle.mv_trail.specs.Events.{Event, submitted, asked, routed, applied, closed, event_of}
@@ -20,11 +20,6 @@ abbrev pub EventsAreWritten : Type 0
 EventsAreWritten = (before : Open) (lines : List Line) (out : List ℕ) (after : Open) → IsReplies IsEvent before lines out after
     → (told : List (ℕ × Event)) × (out ≡ text_lines (map (λ it. event_text it.0 it.1) told))
     × AreTold before (map (λ line. line.bytes) lines) (map (λ it. it.1) told) after
-
--- the members of a list, each with its place, counted from one behind so many others
-abbrev pub placed : {A : Type 0} → ℕ → List A → List (ℕ × A)
-placed count [] = []
-placed count (x ∷ xs) = (count + 1, x) ∷ placed (count + 1) xs
 
 -- the entry of the record that an event tells, with its stamp
 abbrev pub entry_told : Event → Option (ℕ × Entry)
@@ -52,7 +47,7 @@ unless_answer message = Some message
 -- the entries that the events of a run tell are the hub's record, in its order, each with its place
 abbrev pub RecordIsTold : Type 0
 RecordIsTold = (lines : List (List ℕ)) (events : List Event) (st : State) → AreTold None lines events (Some st)
-    → filter_map entry_told events ≡ placed 0 st.hub.entries
+    → filter_map entry_told events ≡ enumerate_from 1 st.hub.entries
 
 -- the entries that the events of a run tell of a party are the log of its repository, in its order
 abbrev pub LogsAreTold : Type 0
@@ -63,4 +58,4 @@ LogsAreTold = (party : ℕ) (lines : List (List ℕ)) (events : List Event) (st 
 -- its number alone.
 abbrev pub SubmissionsAreTold : Type 0
 SubmissionsAreTold = (party : ℕ) (lines : List (List ℕ)) (events : List Event) (st : State) → AreTold None lines events (Some st)
-    → filter_map (submission_told party) events ≡ placed 0 (map unless_answer (submissions_of st party))
+    → filter_map (submission_told party) events ≡ enumerate_from 1 (map unless_answer (submissions_of st party))

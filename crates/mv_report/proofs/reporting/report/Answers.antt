@@ -1,5 +1,5 @@
-use Rattle.std.proofs.Common.{arith, length, ◌∙◌, ap}
-use Rattle.mv_report.specs.Report.{closed_count, head_line, party_line}
+use Rattle.std.proofs.Common.{arith, filter, length, ◌∙◌, ap}
+use Rattle.mv_report.specs.Report.{head_line, is_closing, party_line}
 use Rattle.mv_report.proofs.ReportLemmas.{lines_more, report_whole}
 use Rattle.mv_report.proofs.reporting.report.Goals as goal
 
@@ -10,4 +10,4 @@ pub returns : goal.returns
 returns c =
     report_whole _ _ _ _ _
     (omega (arith, c.loop-party-test.false, c.loop-party.auto.party-end, c.len-party-end.ensures.value, ap length c.parties.ensures))
-    (c.closed_count-closed.ensures ∙ ap closed_count c.record.ensures.entries) c.loop-party.invariant c.in_ok-writeln.ensures.bytes
+    (c.closed_count-closed.ensures ∙ ap (λ entries. length (filter is_closing entries)) c.record.ensures.entries) c.loop-party.invariant c.in_ok-writeln.ensures.bytes

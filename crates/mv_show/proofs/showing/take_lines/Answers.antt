@@ -1,12 +1,12 @@
-use Rattle.std.proofs.Common.{rules}
-use Rattle.mv_show.proofs.ShowingLemmas.{taken_whole, taken_in_part, refused_at_once}
+use Rattle.std.proofs.Common.{None, rules}
+use Rattle.mv_show.proofs.ShowingLemmas.{not_shown, refused_at_once, taken_whole}
 use Rattle.mv_show.proofs.showing.take_lines.Goals as goal
 
 pub returns-in-Ok-clause-ok : goal.returns-in-Ok-clause-ok
-returns-in-Ok-clause-ok g c = taken_whole _ _ _ _ _ c.in-Ok.ensures.ok
+returns-in-Ok-clause-ok g c = taken_whole _ _ _ None None c.requires c.in-Ok.ensures.ok
 
 pub returns-in-Err-Write-clause-err : goal.returns-in-Err-Write-clause-err
-returns-in-Err-Write-clause-err g c = refused_at_once _ _ _ c.in-Err-Write.ensures.err.0 c.in-Err-Write.ensures.err.1
+returns-in-Err-Write-clause-err g c contents = refused_at_once _ _ contents c.in-Err-Write.ensures.err.0 c.in-Err-Write.ensures.err.1
 
 pub returns-in-Err-clause-err : goal.returns-in-Err-clause-err
-returns-in-Err-clause-err g c = taken_in_part c.in-Err.fault _ _ _ _ _ (search rules) c.in-Err.ensures.err
+returns-in-Err-clause-err g c contents = not_shown c.in-Err.fault _ _ _ _ _ contents (search rules) c.requires c.in-Err.ensures.err

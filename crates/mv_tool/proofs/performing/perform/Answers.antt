@@ -1,5 +1,7 @@
-use Rattle.std.proofs.Common.{arith}
-use Rattle.mv_tool.proofs.CommandLemmas.{answered_quietly, ran_answered, ran_explain, ran_lines, ran_strict}
+use Rattle.std.proofs.Common.{None, arith}
+use Rattle.std.proofs.lemmas.Result.{on_ok_weaker}
+use Rattle.mv_lines.specs.Canon.{IsCanon}
+use Rattle.mv_tool.proofs.CommandLemmas.{answered_quietly, canon_left, ran_answered, ran_explain, ran_lines, ran_strict}
 use Rattle.mv_tool.proofs.performing.perform.Goals as goal
 
 -- steps were answered
@@ -21,7 +23,9 @@ returns-in-Show-clause-ran g c = grind (arith, ran_answered)
 
 -- messages were answered
 pub returns-in-Canon-clause-ran : goal.returns-in-Canon-clause-ran
-returns-in-Canon-clause-ran g c = grind (arith, ran_lines)
+returns-in-Canon-clause-ran g c =
+    rw c.in-Canon.is (ran_lines _ _ _ _ None None _ IsCanon tt c.canon.result c.status_of-in-Canon.ensures.status
+    (on_ok_weaker c.canon.result (canon_left _ _ _) c.canon.ensures.ok) c.canon.ensures.err)
 
 -- and checked
 pub returns-in-Check-clause-ran : goal.returns-in-Check-clause-ran

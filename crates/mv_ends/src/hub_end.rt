@@ -16,7 +16,6 @@ use mv_message::{Message, Party, Shared};
 use std::alloc::{AllocError, Global};
 
 /// The hub's end of all rings, with the hub.
-#[derive(Drop)]
 pub struct HubEnd {
     /// Where the copies that go on rings get their memory.
     alloc: Global,
@@ -42,6 +41,19 @@ pub struct HubEnd {
     ghost lawful: { IsLawfulRecord (length hub.parties) hub.entries } by { IsLawfulRecord-prop (length hub.parties) hub.entries },
     /// No more messages of a party were routed than it may submit.
     ghost within: { AreWithin limits.submissions hub },
+}
+
+// Written here, so that the crates above prove nothing of how its parts are dropped.
+impl Drop for HubEnd {
+    fn drop(self) {
+        let Self {
+            alloc: _,
+            limits: _,
+            hub: _,
+            uplinks: _,
+            wires: _,
+        } = self;
+    }
 }
 
 impl HubEnd {

@@ -1,23 +1,8 @@
 -- What is written of an event.
-use Rattle.std.proofs.Common.{◌≡◌, ℕ, List, [], ◌∷◌, ◌++◌, ap, refl, map, inr, IfOk, IfErr, Bool, option_map, Option, Some, None, Result, Ok, Err, arith}
-use Rattle.mv_trail.proofs.Words.{nat_tests, line_at, GotNoReply, Readied, said, Open, IsTaken, Answered, Event, event_of, event_text, IsEvent, Says, Tells}
-use Rattle.serde_json.specs.Data.{Data, member}
-use Rattle.mv_json.specs.Values.{members_with}
-use Rattle.mv_format.specs.declared.members.Member.{Member}
-use Rattle.mv_format.specs.Writing.{entry_of, members_of, members_where}
-use Rattle.mv_trail.specs.EventValues.{field_where}
-use Rattle.mv_trail.specs.Trail.{fields_in}
-
--- a member is written where it has a value
-member-field : (key : List ℕ) (value : Option Data) (entries : List (List ℕ × Option Data)) (rest : List (List ℕ × Data))
-    → members_where entries ≡ members_with rest → members_where ((key, value) ∷ entries) ≡ members_with (field_where (key, value) ++ rest)
-member-field key None entries rest same = same
-member-field key (Some value) entries rest same = ap (member key value) same
-
--- the members that are written are those of the fields
-pub members_fields : (members : List Member) → members_of members ≡ members_with (fields_in members)
-members_fields [] = refl
-members_fields (it ∷ rest) = member-field (entry_of it).0 (entry_of it).1 (map entry_of rest) (fields_in rest) (members_fields rest)
+use Rattle.std.proofs.Common.{◌≡◌, ℕ, List, length, subst, refl, inr, IfOk, IfErr, Bool, option_map, Some, Result, Ok, Err, arith}
+use Rattle.mv_trail.proofs.Words.{nat_tests, Message, Entry, line_at, GotNoReply, Readied, said, Open, IsTaken, Answered, Event, event_of, last_of, routed, routing, event_text, IsEvent, Says, Tells}
+use Rattle.mv_hub.specs.declared.entry.Entry.TheVariants as entries
+use Rattle.mv_trail.specs.EventValues.{event_value}
 
 -- what was said of a line's event is what may be written to the line
 pub event_answers : {E : Type 0} (r : Result Bool E) (old new : List ℕ) (line : ℕ) (before : Open) (bytes : List ℕ) (answered : Answered) (after : Open)
@@ -32,7 +17,15 @@ event_unanswered (Ok spoken) line before bytes answered after taken = tt
 event_unanswered (Err e) line before bytes answered after taken =
     inr (option_map (event_text line) (event_of answered after), (answered, taken, refl))
 
--- an event that there is was written
-pub says_tells : {E : Type 0} (r : Result Bool E) (old new : List ℕ) (line : ℕ) (event : Event) → Says r old new (Some (event_text line event))
-    → Tells r old new line (Some event)
-says_tells r old new line event said = assumption said
+module _ {E : Type 0} (r : Result Bool E) (old new : List ℕ) (line : ℕ) where
+  -- an event that there is was written
+  pub says_tells : (event : Event) → Says r old new (event_value line event) → Tells r old new line (Some event)
+  says_tells event said = assumption said
+
+  -- so it was of a routing, by the entry that it made, the last of so many
+  pub route_tells : (reach : List ℕ) (all : List Entry) (from k : ℕ) (message written : Message)
+      → last_of all ≡ Some (entries.Routed from k message) → written ≡ message
+      → Says r old new (event_value line (routed from k written reach (length all)))
+      → Tells r old new line (routing reach (length all) (last_of all))
+  route_tells reach all from k message written last same said =
+      rw last (says_tells (routed from k message reach (length all)) (subst (λ m. Says r old new (event_value line (routed from k m reach (length all)))) same said))

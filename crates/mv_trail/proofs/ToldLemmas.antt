@@ -1,7 +1,7 @@
 -- The record, each log and what each party submitted grow by what events tell.
 use Rattle.std.proofs.lemmas.Grind.{elements}
-use Rattle.std.proofs.Common.{◌≡◌, ℕ, ◌+◌, ◌-◌, ◌<◌, ◌==◌, false, List, [], ◌∷◌, ◌++◌, map, length, set, get_or, slice_get, Option, Some, None, refl, ap, ◌∙◌, append-nil, arith, option_map, option_to_list, length-append, if◌then◌else◌, get_or-set_same, get_or-set_other, rules}
-use Rattle.mv_trail.proofs.Words.{submitted_change, asked_change, routed_change, closed_change, relayed, repeated, applied_change, dropped, nothing, common_steps, nat_tests, Message, is_query_or_answer, Item, answer_after, entry_from, answer_number, new_site, slice_get-behind, SiteState, State, submissions_of, log_of, site_of, is_party, with_site, Event, entry_told, applied_told, submission_told, unless_answer}
+use Rattle.std.proofs.Common.{◌≡◌, ℕ, ◌+◌, ◌<◌, ◌==◌, false, List, [], ◌∷◌, ◌++◌, map, length, set, get_or, slice_get, Option, Some, None, refl, ap, ◌∙◌, append-nil, arith, option_map, option_to_list, length-append, if◌then◌else◌, get_or-set_same, get_or-set_other, rules}
+use Rattle.mv_trail.proofs.Words.{submitted_change, asked_change, routed_change, closed_change, relayed, repeated, applied_change, dropped, nothing, common_steps, nat_tests, Message, is_query_or_answer, Item, answer_after, entry_from, answer_number, new_site, slice_get-behind, SiteState, State, submissions_of, log_of, site_of, is_party, with_site, Event, last_of, entry_told, applied_told, submission_told, unless_answer}
 use Rattle.std.specs.List.{enumerate_from}
 use Rattle.std.proofs.lemmas.List.{length-map, map-append, set_past}
 use Rattle.mv_repository.specs.declared.effect.Effect.{Effect}
@@ -10,11 +10,7 @@ use Rattle.mv_machine.specs.Lawful.{IsWellFormed}
 use Rattle.mv_trail.specs.Events as events
 use Rattle.mv_trail.proofs.StepLemmas.{told, Grows, quiet-silent, drop-silent}
 
--- the last of a list
-abbrev last_of : {A : Type 0} → List A → Option A
-last_of xs = slice_get xs (length xs - 1)
-
--- and of one that grew by one
+-- the last of a list that grew by one
 last-pushed : {A : Type 0} (xs : List A) (x : A) → last_of (xs ++ x ∷ []) ≡ Some x
 last-pushed xs x = ap (slice_get (xs ++ x ∷ [])) (omega (arith, length-append xs (x ∷ []))) ∙ slice_get-behind xs x []
 
@@ -23,15 +19,11 @@ enumerate-pushed : {A : Type 0} (first place : ℕ) (xs : List A) (x : A) → pl
 enumerate-pushed first place [] x is = ap (λ k. (k, x) ∷ []) (omega (arith, is))
 enumerate-pushed first place (y ∷ ys) x is = ap (λ l. (first, y) ∷ l) (enumerate-pushed (first + 1) place ys x (omega (arith, is)))
 
--- what stands behind so many others is that of the number that follows
-numbered-next : {A : Type 0} (xs : List A) (count : ℕ) (x : A) → slice_get xs count ≡ Some x → slice_get xs (count + 1 - 1) ≡ Some x
-numbered-next xs count x is = ap (slice_get xs) (omega arith) ∙ is
-
 pub record_told : (st : State) → Grows entry_told (λ st. enumerate_from 1 st.hub.entries) st
 record_told st _ _ _ (nothing step reply quiet) = rw (quiet-silent entry_told (λ _ _ _. refl) (λ _ _ _ _. refl) step reply st quiet, append-nil) refl
 record_told st _ _ _ (submitted_change from message is_party none free) = search (rules, append-nil, enumerate-pushed, last-pushed, length-append)
 record_told st _ _ _ (asked_change party key is_party free) = search (rules, append-nil, enumerate-pushed, last-pushed, length-append)
-record_told st _ _ _ (routed_change from message is_party next free) = search (rules, next, numbered-next, append-nil, enumerate-pushed, length-append)
+record_told st _ _ _ (routed_change from message is_party next free) = search (rules, append-nil, enumerate-pushed, last-pushed, length-append)
 record_told st _ _ _ (closed_change from to from_is_party to_is_party still_open) = search (rules, append-nil, enumerate-pushed, last-pushed, length-append)
 record_told st _ _ _ (relayed from to from_is_party to_is_party room some) = search (rules, append-nil, enumerate-pushed, last-pushed, length-append)
 record_told st _ _ _ (repeated from to number room least most) = search (rules, append-nil, enumerate-pushed, last-pushed, length-append)

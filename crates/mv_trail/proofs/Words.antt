@@ -2,6 +2,7 @@
 pub use Rattle.mv_engine.specs.Lines.{Line, line_at}
 pub use Rattle.mv_engine.specs.Replies.{AreReplies, GotNoReply, Readied, said, said_texts}
 pub use Rattle.mv_format.specs.declared.answered.Answered.{Answered}
+pub use Rattle.mv_hub.specs.declared.entry.Entry.{Entry}
 pub use Rattle.mv_lines.specs.Sessions.{IsTaken, Open}
 pub use Rattle.mv_link.specs.declared.item.Item.{Item}
 pub use Rattle.mv_machine.proofs.CallerLemmas.{Change, IsSound, applied as applied_change, asked as asked_change, change-sound, closed as closed_change, dropped, drops, nothing, opening-sound, relayed, repeated, routed as routed_change, slice_get-behind, step-changes, submitted as submitted_change}
@@ -12,7 +13,7 @@ pub use Rattle.mv_message.specs.Kinds.{is_query_or_answer}
 pub use Rattle.mv_message.specs.declared.message.Message.{Message}
 pub use Rattle.mv_party.specs.Site.{SiteState, answer_number, entry_from, new_site}
 pub use Rattle.mv_repository.specs.Verdict.{answer_after}
-pub use Rattle.mv_trail.specs.Events.{Event, applied, event_of, event_of_step}
+pub use Rattle.mv_trail.specs.Events.{Event, applied, event_of, event_of_step, last_of, routed, routing}
 pub use Rattle.mv_trail.specs.Laws.{AreTold, EventsAreWritten, LogsAreTold, RecordIsTold, SubmissionsAreTold, applied_told, entry_told, submission_told, unless_answer}
 pub use Rattle.mv_trail.specs.Trail.{IsEvent, Says, Tells, event_text}
 pub use Rattle.std.proofs.lemmas.Bool.Decides.{nat_tests}

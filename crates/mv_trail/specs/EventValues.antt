@@ -1,7 +1,6 @@
--- The JSON object of each event, with the number of the line that made it: its keys stand in byte order.
-use Rattle.std.specs.Prelude.{ℕ, List, [], ◌∷◌, ◌++◌, codes, Bool, Option, Some, None, option_map, option_to_list}
-use Rattle.mv_trail.specs.Words.{Data, array, boolean, string, Effect, Verdict}
-use Rattle.mv_pack.specs.declared.key.PackKey.{PackKey}
+-- The JSON value of each event, with the number of the line that made it: an object, its keys in byte order.
+use Rattle.std.specs.Prelude.{ℕ, List, [], ◌∷◌, codes, Bool, Option, Some, None, option_map}
+use Rattle.mv_trail.specs.Words.{Data, boolean, string, array, object, Effect, Verdict}
 use Rattle.mv_json.specs.Messages.{value_of}
 use Rattle.mv_json.specs.Values.{whole}
 use Rattle.mv_link.specs.declared.item.Item.{Item}
@@ -11,16 +10,28 @@ use Rattle.mv_repository.specs.declared.effect.Effect.TheVariants.{Uploaded}
 use Rattle.mv_repository.specs.declared.verdict.Verdict.TheVariants.{Authentic, NotAuthentic}
 use Rattle.mv_format.specs.Meanings.{markets_value}
 use Rattle.mv_format.specs.ReplyLines.{wholes}
+use Rattle.mv_format.specs.Writing.{members_where}
 use Rattle.mv_trail.specs.Events.{Event, opened, submitted, asked, verified, routed, applied, closed, decided}
 
--- a field of an object, where it has a value
-abbrev pub field_where : List ℕ × Option Data → List (List ℕ × Data)
-field_where (key, value) = option_to_list (option_map (λ it. (key, it)) value)
+-- a member of an object: its key, and its value, where it has one
+abbrev pub Field : Type 0
+Field = List ℕ × Option Data
 
--- of an upload, how many of its packs were new, and how many were there
-abbrev pub new_and_old : Effect → Option (ℕ × ℕ)
-new_and_old (Uploaded new old) = Some (new, old)
-new_and_old effect = None
+abbrev pub text : List ℕ → List ℕ → Field
+text key value = (key, Some (string value))
+
+abbrev pub number : List ℕ → ℕ → Field
+number key n = (key, Some (whole n))
+
+-- of an upload, how many of its packs were new
+abbrev pub new_packs : Effect → Option ℕ
+new_packs (Uploaded new old) = Some new
+new_packs effect = None
+
+-- of an upload, how many of its packs were there
+abbrev pub old_packs : Effect → Option ℕ
+old_packs (Uploaded new old) = Some old
+old_packs effect = None
 
 -- of a pack that is not authentic, whether a falsification is suspected
 abbrev pub suspicion : Verdict → Option Bool
@@ -33,44 +44,45 @@ verdict_name Authentic = codes "authentic"
 verdict_name (NotAuthentic falsification) = codes "not authentic"
 
 -- the fields of an item that was applied: of a receipt, whom its message reached; of a message, what it is and its stamp
-abbrev pub applied_fields : ℕ → ℕ → ℕ → Effect → Option ℕ → ℕ → Item → List (List ℕ × Data)
+abbrev pub applied_fields : ℕ → ℕ → ℕ → Effect → Option ℕ → ℕ → Item → List Field
 applied_fields line to n effect answer from (Receipt k reach query) =
-    (codes "effect", string (code_of effect)) ∷ (codes "event", string (codes "applied")) ∷ (codes "from", whole from)
-    ∷ (codes "k", whole k) ∷ (codes "line", whole line) ∷ (codes "number", whole n) ∷ (codes "query", boolean query)
-    ∷ (codes "reach", array (wholes reach)) ∷ (codes "to", whole to) ∷ []
+    text (codes "effect") (code_of effect) ∷ text (codes "event") (codes "applied") ∷ number (codes "from") from ∷ number (codes "k") k
+    ∷ number (codes "line") line ∷ number (codes "number") n ∷ (codes "query", Some (boolean query)) ∷ (codes "reach", Some (array (wholes reach)))
+    ∷ number (codes "to") to ∷ []
 applied_fields line to n effect answer from (Carried k stamp carried) =
-    field_where (codes "answer", option_map whole answer) ++ (codes "effect", string (code_of effect))
-    ∷ (codes "event", string (codes "applied")) ∷ (codes "from", whole from) ∷ (codes "k", whole k) ∷ (codes "line", whole line)
-    ∷ (codes "message", value_of carried) ∷ (field_where (codes "new", option_map whole (option_map (λ it. it.0) (new_and_old effect)))
-    ++ (codes "number", whole n) ∷ (field_where (codes "old", option_map whole (option_map (λ it. it.1) (new_and_old effect)))
-    ++ (codes "stamp", whole stamp) ∷ (codes "to", whole to) ∷ []))
-
--- the fields of a verdict on a pack, which a party has on its query of this number, or without one
-abbrev pub verdict_fields : ℕ → List ℕ → ℕ → Option ℕ → PackKey → Verdict → List (List ℕ × Data)
-verdict_fields line event party q key verdict =
-    (codes "event", string event) ∷ (field_where (codes "falsification", option_map boolean (suspicion verdict))
-    ++ (codes "gtin", string key.gtin) ∷ (codes "line", whole line) ∷ (codes "party", whole party)
-    ∷ (field_where (codes "q", option_map whole q) ++ (codes "serial", string key.serial)
-    ∷ (codes "verdict", string (verdict_name verdict)) ∷ []))
+    (codes "answer", option_map whole answer) ∷ text (codes "effect") (code_of effect) ∷ text (codes "event") (codes "applied")
+    ∷ number (codes "from") from ∷ number (codes "k") k ∷ number (codes "line") line ∷ (codes "message", Some (value_of carried))
+    ∷ (codes "new", option_map whole (new_packs effect)) ∷ number (codes "number") n ∷ (codes "old", option_map whole (old_packs effect))
+    ∷ number (codes "stamp") stamp ∷ number (codes "to") to ∷ []
 
 -- the fields of an event that the line of this number made
-abbrev pub fields_of : ℕ → Event → List (List ℕ × Data)
+abbrev pub fields_of : ℕ → Event → List Field
 fields_of line (opened markets limits) =
-    (codes "event", string (codes "opened")) ∷ (codes "line", whole line) ∷ (codes "parties", markets_value markets)
-    ∷ (codes "submissions", whole limits.submissions) ∷ (codes "uplink", whole limits.uplink)
-    ∷ (codes "window", whole limits.window) ∷ (codes "wire", whole limits.wire) ∷ []
+    text (codes "event") (codes "opened") ∷ number (codes "line") line ∷ (codes "parties", Some (markets_value markets))
+    ∷ number (codes "submissions") limits.submissions ∷ number (codes "uplink") limits.uplink
+    ∷ number (codes "window") limits.window ∷ number (codes "wire") limits.wire ∷ []
 fields_of line (submitted from k submission) =
-    (codes "event", string (codes "submitted")) ∷ (codes "from", whole from) ∷ (codes "k", whole k) ∷ (codes "line", whole line)
-    ∷ (codes "message", value_of submission) ∷ []
+    text (codes "event") (codes "submitted") ∷ number (codes "from") from ∷ number (codes "k") k ∷ number (codes "line") line
+    ∷ (codes "message", Some (value_of submission)) ∷ []
 fields_of line (asked party key q) =
-    (codes "event", string (codes "asked")) ∷ (codes "gtin", string key.gtin) ∷ (codes "line", whole line)
-    ∷ (codes "party", whole party) ∷ (codes "q", whole q) ∷ (codes "serial", string key.serial) ∷ []
-fields_of line (verified party key verdict) = verdict_fields line (codes "verified") party None key verdict
+    text (codes "event") (codes "asked") ∷ text (codes "gtin") key.gtin ∷ number (codes "line") line ∷ number (codes "party") party
+    ∷ number (codes "q") q ∷ text (codes "serial") key.serial ∷ []
+fields_of line (verified party key verdict) =
+    text (codes "event") (codes "verified") ∷ (codes "falsification", option_map boolean (suspicion verdict)) ∷ text (codes "gtin") key.gtin
+    ∷ number (codes "line") line ∷ number (codes "party") party ∷ text (codes "serial") key.serial
+    ∷ text (codes "verdict") (verdict_name verdict) ∷ []
 fields_of line (routed from k submission reach stamp) =
-    (codes "event", string (codes "routed")) ∷ (codes "from", whole from) ∷ (codes "k", whole k) ∷ (codes "line", whole line)
-    ∷ (codes "message", value_of submission) ∷ (codes "reach", array (wholes reach)) ∷ (codes "stamp", whole stamp) ∷ []
+    text (codes "event") (codes "routed") ∷ number (codes "from") from ∷ number (codes "k") k ∷ number (codes "line") line
+    ∷ (codes "message", Some (value_of submission)) ∷ (codes "reach", Some (array (wholes reach))) ∷ number (codes "stamp") stamp ∷ []
 fields_of line (applied to n effect answer entry) = applied_fields line to n effect answer entry.sender entry.item
 fields_of line (closed from to stamp) =
-    (codes "event", string (codes "closed")) ∷ (codes "from", whole from) ∷ (codes "line", whole line)
-    ∷ (codes "stamp", whole stamp) ∷ (codes "to", whole to) ∷ []
-fields_of line (decided party q key verdict) = verdict_fields line (codes "verdict") party (Some q) key verdict
+    text (codes "event") (codes "closed") ∷ number (codes "from") from ∷ number (codes "line") line ∷ number (codes "stamp") stamp
+    ∷ number (codes "to") to ∷ []
+fields_of line (decided party q key verdict) =
+    text (codes "event") (codes "verdict") ∷ (codes "falsification", option_map boolean (suspicion verdict)) ∷ text (codes "gtin") key.gtin
+    ∷ number (codes "line") line ∷ number (codes "party") party ∷ number (codes "q") q ∷ text (codes "serial") key.serial
+    ∷ text (codes "verdict") (verdict_name verdict) ∷ []
+
+-- the value of an event that the line of this number made
+abbrev pub event_value : ℕ → Event → Data
+event_value line event = object (members_where (fields_of line event))

@@ -9,4 +9,4 @@ pub use Rattle.mv_message.specs.declared.message.Message.{Message}
 pub use Rattle.mv_repository.specs.declared.effect.Effect.{Effect}
 pub use Rattle.mv_repository.specs.declared.entry.LogEntry.{LogEntry}
 pub use Rattle.mv_repository.specs.declared.verdict.Verdict.{Verdict}
-pub use Rattle.serde_json.specs.Data.{Data, array, boolean, string}
+pub use Rattle.serde_json.specs.Data.{Data, array, boolean, object, string}

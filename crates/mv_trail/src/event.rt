@@ -1,15 +1,16 @@
 //! Writes events, each as the canonical text of one JSON object.
 
-ghost use Rattle.std.specs.Prelude.{◌≡◌, ◌-◌, Some, length, option_map, slice_get};
+ghost use Rattle.std.specs.Prelude.{◌≡◌, Some};
 ghost use Rattle.std.specs.Option.{option_copied};
-ghost use Rattle.serde_json.specs.Written.{compact_text};
-ghost use Rattle.mv_machine.specs.State.{log_of};
+ghost use Rattle.serde_json.specs.Data.{object};
+ghost use Rattle.mv_machine.specs.State.{submissions_of, log_of};
 ghost use Rattle.mv_party.specs.Site.{entry_from};
-ghost use Rattle.mv_format.specs.Objects.{object_of};
-ghost use Rattle.mv_trail.specs.Events.{event_of_step, event_of, opened, applied, pack_asked, submission_at};
-ghost use Rattle.mv_trail.specs.EventValues.{new_and_old, suspicion, verdict_name};
-ghost use Rattle.mv_trail.specs.Trail.{Tells, Says, fields_in};
+ghost use Rattle.mv_format.specs.Writing.{members_of};
+ghost use Rattle.mv_trail.specs.Events.{last_of, asked_about, event_of_step, event_of, opened, applied};
+ghost use Rattle.mv_trail.specs.EventValues.{new_packs, old_packs, suspicion, verdict_name};
+ghost use Rattle.mv_trail.specs.Trail.{Tells, Says};
 
+use mv_hub::Entry;
 use mv_lines::{Answered, Member, append_object};
 use mv_link::Item;
 use mv_machine::{Reply, Step};
@@ -156,24 +157,24 @@ impl<'a> Teller<'a> {
         }
     }
 
-    /// Tells what a routing did. Its entry is the last of the record.
+    /// Tells what a routing did, by the last entry of the record.
     fn tell_route(&self, from: Party, reply: &'a Reply, out: &mut Vec<u8>) -> Told
         ensures { Tells result out.old.items out.new.items self.now.line
             (event_of_step (Step.Route from) reply.now self.now.world.now) }
     {
-        let Reply::Routed { k, reach } = reply else {
-            return Ok(false);
-        };
-        let Some(message) = submission_at(self.world, from, *k) else {
+        let Reply::Routed { reach, .. } = reply else {
             return Ok(false);
         };
         let record = self.world.hub().record();
+        let Some(Entry::Routed { from, k, message }) = record.last() else {
+            return Ok(false);
+        };
         let members = [
             Member::Text("event", "routed"),
-            Member::Number("from", u64::from(from)),
+            Member::Number("from", u64::from(*from)),
             Member::Number("k", u64::from(*k)),
             Member::Number("line", u64::from(self.line)),
-            Member::Message("message", message),
+            Member::Message("message", message.get()),
             Member::Parties("reach", reach),
             Member::Number("stamp", record.len() as u64),
         ];
@@ -212,37 +213,37 @@ impl<'a> Teller<'a> {
             frame.to frame.number frame.effect frame.answer (entry_from frame.from item.now))) }
     {
         match item {
-            Item::Receipt { k, reach, query } => {
-                let members = [
+            Item::Receipt { k, reach, query } => self.say(
+                &[
                     Member::Text("effect", frame.effect.code()),
                     Member::Text("event", "applied"),
-                    Member::Number("from", frame.from as u64),
-                    Member::Number("k", *k as u64),
-                    Member::Number("line", self.line as u64),
-                    Member::Number("number", frame.number as u64),
+                    Member::Number("from", u64::from(frame.from)),
+                    Member::Number("k", u64::from(*k)),
+                    Member::Number("line", u64::from(self.line)),
+                    Member::Number("number", u64::from(frame.number)),
                     Member::Flag("query", *query),
                     Member::Parties("reach", reach),
-                    Member::Number("to", frame.to as u64),
-                ];
-                self.say(&members, out)
-            }
-            Item::Carried { k, stamp, message } => {
-                let members = [
+                    Member::Number("to", u64::from(frame.to)),
+                ],
+                out,
+            ),
+            Item::Carried { k, stamp, message } => self.say(
+                &[
                     Member::NumberOrNone("answer", wide(frame.answer)),
                     Member::Text("effect", frame.effect.code()),
                     Member::Text("event", "applied"),
-                    Member::Number("from", frame.from as u64),
-                    Member::Number("k", *k as u64),
-                    Member::Number("line", self.line as u64),
+                    Member::Number("from", u64::from(frame.from)),
+                    Member::Number("k", u64::from(*k)),
+                    Member::Number("line", u64::from(self.line)),
                     Member::Message("message", message.get()),
                     Member::NumberOrNone("new", new_packs(frame.effect)),
-                    Member::Number("number", frame.number as u64),
+                    Member::Number("number", u64::from(frame.number)),
                     Member::NumberOrNone("old", old_packs(frame.effect)),
-                    Member::Number("stamp", *stamp as u64),
-                    Member::Number("to", frame.to as u64),
-                ];
-                self.say(&members, out)
-            }
+                    Member::Number("stamp", u64::from(*stamp)),
+                    Member::Number("to", u64::from(frame.to)),
+                ],
+                out,
+            ),
         }
     }
 
@@ -289,10 +290,8 @@ impl<'a> Teller<'a> {
     }
 
     /// Writes the object of these members, and says that there is one.
-    #[tactic(auto, using(crate::proofs::EventLemmas::members_fields))]
     fn say(&self, members: &[Member<'_>], out: &mut Vec<u8>) -> Told
-        ensures { Says result out.old.items out.new.items
-            (Some (compact_text (object_of (fields_in members.now)))) }
+        ensures { Says result out.old.items out.new.items (object (members_of members.now)) }
     {
         append_object(self.alloc, out, members)?;
         Ok(true)
@@ -301,8 +300,7 @@ impl<'a> Teller<'a> {
 
 /// The last entry of the log of a party; none where there is no such party, or it has applied nothing.
 fn last_applied(world: &World, party: Party) -> Option<&LogEntry>
-    ensures { option_copied result
-        ≡ slice_get (log_of world.now party) (length (log_of world.now party) - 1) }
+    ensures { option_copied result ≡ last_of (log_of world.now party) }
 {
     // Each party has a log, and nobody else.
     let _ = world.record();
@@ -312,23 +310,16 @@ fn last_applied(world: &World, party: Party) -> Option<&LogEntry>
     world.log(party).last()
 }
 
-/// What a party submitted as its message of this number, if it did.
-fn submission_at(world: &World, party: Party, k: u32) -> Option<&Message>
-    ensures { option_copied result ≡ submission_at world.now party k }
+/// The pack that a party's message of this number asks about, if it asks about one.
+fn asked_about(world: &World, party: Party, q: u32) -> Option<&PackKey>
+    ensures { option_copied result ≡ asked_about (submissions_of world.now party) q }
 {
     // Each party has its submissions, and nobody else.
     let _ = world.record();
-    if !world.is_party(party) {
+    if q == 0 || !world.is_party(party) {
         return None;
     }
-    Some(world.sub(party).get(k.saturating_sub(1) as usize)?.get())
-}
-
-/// The pack that a party's message of this number asks about, if it asks about one.
-fn asked_about(world: &World, party: Party, q: u32) -> Option<&PackKey>
-    ensures { option_copied result ≡ pack_asked (submission_at world.now party q) }
-{
-    match submission_at(world, party, q)? {
+    match world.sub(party).get(q as usize - 1)?.get() {
         Message::Query { key } => Some(key),
         _ => None,
     }
@@ -346,7 +337,7 @@ fn wide(number: Option<u32>) -> Option<u64>
 
 /// How many packs of an upload were new.
 fn new_packs(effect: Effect) -> Option<u64>
-    ensures { result ≡ option_map (λ it. it.0) (new_and_old effect) }
+    ensures { result ≡ new_packs effect }
 {
     match effect {
         Effect::Uploaded { new, .. } => Some(new),
@@ -356,7 +347,7 @@ fn new_packs(effect: Effect) -> Option<u64>
 
 /// How many packs of an upload were there.
 fn old_packs(effect: Effect) -> Option<u64>
-    ensures { result ≡ option_map (λ it. it.1) (new_and_old effect) }
+    ensures { result ≡ old_packs effect }
 {
     match effect {
         Effect::Uploaded { old, .. } => Some(old),

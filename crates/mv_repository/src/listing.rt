@@ -81,8 +81,10 @@ impl Listing {
         if !self.is_whole {
             return None;
         }
-        let numbers = self.batches.get(&key.batch);
-        Some(numbers.map_or(&[], |numbers| numbers.as_slice()))
+        match self.batches.get(&key.batch) {
+            Some(numbers) => Some(numbers.as_slice()),
+            None => Some(&[]),
+        }
     }
 }
 

@@ -162,8 +162,10 @@ impl Repository {
     pub fn serials(&self, gtin: &Gtin) -> &[Serial]
         ensures { result.now ≡ serials_of self.now.log gtin.now }
     {
-        let shelf = self.tables.shelves.get(gtin);
-        shelf.map_or(&[], |shelf| shelf.serials())
+        match self.tables.shelves.get(gtin) {
+            Some(shelf) => shelf.serials(),
+            None => &[],
+        }
     }
 
     /// Whether a batch is recalled.

@@ -132,7 +132,7 @@ impl Shelf {
         let (birth, _, by) = self.kept(Some(slot));
         match counted {
             Counted::Every => birth.is_some(),
-            Counted::Active => birth.is_some_and(|birth| birth == by),
+            Counted::Active => birth == Some(by),
         }
     }
 

@@ -147,7 +147,7 @@ fn add_master(
     ensures err { OnErr result (masters.new.entries ≡ masters.old.entries) }
 {
     let last = masters.get(&gtin).copied();
-    if last.is_none_or(|last| !passes(log, place, last)) {
+    if !matches!(last, Some(last) if passes(log, place, last)) {
         masters.insert(gtin, place)?;
     }
     Ok(())

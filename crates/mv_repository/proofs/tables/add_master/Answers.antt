@@ -3,8 +3,8 @@ use Rattle.std.specs.Prelude.{◌≡◌}
 use Rattle.mv_repository.proofs.Lemmas.{bytes_eq, rules, false, lookup, comes_late, masters-late-at, masters-latest-at, arith}
 use Rattle.mv_repository.proofs.tables.add_master.Goals as goal
 
-pub returns-else-is_none_or-clause-ok : goal.returns-else-is_none_or-clause-ok
-returns-else-is_none_or-clause-ok c = grind (arith, masters-late-at)
+pub returns-else-not-matches-clause-ok : goal.returns-else-not-matches-clause-ok
+returns-else-not-matches-clause-ok c = grind (arith, masters-late-at)
 
 pub returns-in_ok-insert-clause-ok : goal.returns-in_ok-insert-clause-ok
 returns-in_ok-insert-clause-ok c =

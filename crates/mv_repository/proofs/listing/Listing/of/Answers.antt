@@ -2,5 +2,8 @@
 use Rattle.mv_repository.proofs.Lemmas.{rules, listed_in}
 use Rattle.mv_repository.proofs.listing.Listing.of.Goals as goal
 
-pub returns : goal.returns
-returns c number = search (rules, listed_in)
+pub returns-in-Some : goal.returns-in-Some
+returns-in-Some c number = search (rules, listed_in)
+
+pub returns-in-None : goal.returns-in-None
+returns-in-None c number = search (rules, listed_in)

@@ -16,8 +16,7 @@ new_repository party = record { party = party; log = [] }
 
 -- the repository once an item from a sender is applied
 abbrev pub with_applied : RepositoryState → ℕ → Item → RepositoryState
-with_applied repository sender item =
-    record repository { log = repository.log ++ record { sender = sender; item = item } ∷ [] }
+with_applied repository sender item = record repository { log = repository.log ++ record { sender = sender; item = item } ∷ [] }
 
 -- the product that an item gives under a code: that of a master of the code
 abbrev pub product_under : List ℕ → Item → Option Product
@@ -72,7 +71,6 @@ counts_of log = record {
   entries = length log;
   products = distinct_count bytes_eq (flat_map (λ entry. mastered_in entry.item) log);
   packs = distinct_count is_same_pack (uploaded_packs log);
-  active = distinct_count is_same_pack
-      (filter (λ pack. option_map_or (λ held. is_active held.standing) (pack_state pack log) false) (uploaded_packs log));
+  active = distinct_count is_same_pack (filter (λ pack. option_map_or (λ held. is_active held.standing) (pack_state pack log) false) (uploaded_packs log));
   recalled = distinct_count is_same_batch (flat_map (λ entry. recalled_in entry.item) log);
 }

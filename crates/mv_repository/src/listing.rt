@@ -62,7 +62,10 @@ impl Listing {
         ensures added { IfSome (option_and_then (batch_at log.now) birth) (λ batch. lists self.new batch number ≡ true) }
         ensures kept { (batch : List ℕ) (other : ℕ) → lists self.old batch other ≡ true → lists self.new batch other ≡ true }
     {
-        let Some(batch) = birth.and_then(|place| batch_at(log, place)) else {
+        let Some(birth) = birth else {
+            return;
+        };
+        let Some(batch) = batch_at(log, birth) else {
             return;
         };
         if add_to(self.alloc, &mut self.batches, batch, number).is_err() {

@@ -270,10 +270,8 @@ impl Repository {
         item: &Item,
     ) -> Result<(Effect, Option<Shared<Message>>), AllocError>
         ensures ok { OnOk result (self.new ≡ with_applied self.old sender item.now) }
-        ensures effect { IfOk result (λ done. done.0
-            ≡ effect_of self.old.log (record { sender = sender; item = item.now })) }
-        ensures answer { IfOk result (λ done. done.1
-            ≡ answer_to self.old.log (record { sender = sender; item = item.now })) }
+        ensures effect { IfOk result (λ done. done.0 ≡ effect_of self.old.log (record { sender = sender; item = item.now })) }
+        ensures answer { IfOk result (λ done. done.1 ≡ answer_to self.old.log (record { sender = sender; item = item.now })) }
         ensures err { OnErr result (self.new ≡ self.old) }
     {
         let place = self.log.len();

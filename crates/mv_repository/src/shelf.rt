@@ -175,9 +175,8 @@ impl Shelf {
                 Slot::Own(number) => {
                     let track = &mut self.tracks[number as usize];
                     let is_first = track.add_upload(newest, gtin);
-                    if is_first {
-                        self.listing.note(newest.log, Some(newest.place), number);
-                    }
+                    let place = is_first.then_some(newest.place);
+                    self.listing.note(newest.log, place, number);
                     is_first
                 }
                 Slot::Made(first) => {
@@ -245,9 +244,9 @@ impl Shelf {
         if number > u32::MAX as usize {
             return Err(AllocError);
         }
+        self.tracks.reserve(1)?;
         let mut track = Track::new(alloc, birth);
         let effect = track.add_status(newest, pack)?;
-        self.tracks.reserve(1)?;
         self.slots
             .insert(pack.serial.copy(), Slot::Own(number as u32))?;
         self.listing.note(newest.log, birth, number as u32);

@@ -53,8 +53,7 @@ pub(crate) struct Stops {
 impl Stops {
     /// How a batch stands where an entry stands.
     pub fn standing_at(&self, log: &[LogEntry], batch: &BatchKey, place: u32) -> BatchStanding
-        ensures { result
-            ≡ standing_at (stops_in log.now self.now) (entry_at log.now place) batch.now }
+        ensures { result ≡ standing_at (stops_in log.now self.now) (entry_at log.now place) batch.now }
     {
         BatchStanding {
             recalled: is_before(log, self.recalls.get(batch).copied(), place),
@@ -69,8 +68,7 @@ impl Stops {
         requires stop { is_stop stop.now (entry_at log.now place).entry.item ≡ true }
         requires stops { AreStopsOf (take place log.now) self.old }
         ensures ok { OnOk result (AreStopsOf log.now self.new) }
-        ensures first { IfOk result (λ first. first
-            ≡ comes_first log.now place (first_place stop.now self.old)) }
+        ensures first { IfOk result (λ first. first ≡ comes_first log.now place (first_place stop.now self.old)) }
         ensures err { OnErr result (AreStopsOf (take place log.now) self.new) }
     {
         match *stop {
@@ -89,8 +87,7 @@ fn add_first<K: Eq + Hash + Drop>(
     key: K,
     place: u32,
 ) -> Result<bool, AllocError>
-    ensures first { IfOk result (λ first. first
-        ≡ comes_first log.now place (lookup (K.eq key) places.old.entries)) }
+    ensures first { IfOk result (λ first. first ≡ comes_first log.now place (lookup (K.eq key) places.old.entries)) }
     ensures ok { OnOk result (HasFirst K.eq log.now place key places.old.entries places.new.entries) }
     ensures err { OnErr result (places.new.entries ≡ places.old.entries) }
 {

@@ -44,9 +44,7 @@ returns-in_ok-effect-in-Upload-clause-ok c = record {
       (upload-away c.args.log.now c.args.place c.in-Upload.gtin c.as_slice-serials.result.now c.requires.last (uploaded c));
   named =
       let more = named-longer (take c.args.place c.args.log.now) (get_or c.args.log.now c.args.place no_entry) c.args.log.now (log-split c.args.log.now c.args.place c.requires.last) in
-      let size = named-upload c.in-Upload.gtin c.as_slice-serials.result.now (get_or c.args.log.now c.args.place no_entry).item (uploaded c) in
-      let was = c.requires.tables.named in
-      omega (arith, more, size, was);
+      omega (arith, more, named-upload c.in-Upload.gtin c.as_slice-serials.result.now (get_or c.args.log.now c.args.place no_entry).item (uploaded c), c.requires.tables.named);
 }
 
 -- the entry is the status
@@ -80,6 +78,4 @@ returns-in_default-clause-ok c =
 
 pub returns-in_default-message-clause-ok : goal.returns-in_default-message-clause-ok
 returns-in_default-message-clause-ok c =
-    tables-noted c.args.log.now c.args.place c.requires.last c.args.self.now
-    (other-noted (get_or c.args.log.now c.args.place no_entry).item c.in-Some.message.now (search rules) c.in_default-message.not-Master c.in_default-message.not-Upload c.in_default-message.not-Status c.in_default-message.not-Recall c.in_default-message.not-Withdraw)
-    c.requires.tables
+    tables-noted c.args.log.now c.args.place c.requires.last c.args.self.now (other-noted (get_or c.args.log.now c.args.place no_entry).item c.in-Some.message.now (search rules) c.in_default-message.not-Master c.in_default-message.not-Upload c.in_default-message.not-Status c.in_default-message.not-Recall c.in_default-message.not-Withdraw) c.requires.tables

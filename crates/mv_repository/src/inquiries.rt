@@ -4,7 +4,7 @@
 //! It stands apart since no other table bears on it: it changes at receipts of queries and at answers alone.
 
 ghost use Rattle.std.specs.Prelude.{◌≡◌, ◌≤◌, ◌∷◌, ◌++◌};
-ghost use Rattle.mv_repository.specs.Clauses.{AnEntry, HasRoom, IsInquiriesOf, List, OnOk, [], filter, has_reply, inquiry_after, joint_verdict, length, no_inquiry, not, query_of, ℕ};
+ghost use Rattle.mv_repository.specs.Clauses.{AnEntry, HasRoom, IsInquiriesOf, List, OnOk, [], filter, has_reply, inquiry_after, joint_verdict, length, not, query_of, ℕ};
 
 use crate::Joint;
 use crate::verdict::{found_active, found_explained, verdict_when};
@@ -67,7 +67,12 @@ impl Inquiries {
         let Ok(inquiry) = self.inquiries.entry(query) else {
             unreachable!();
         };
-        inquiry.or_insert(Inquiry::new()).note(item);
+        let unknown = Inquiry {
+            asked: None,
+            active: false,
+            explained: false,
+        };
+        inquiry.or_insert(unknown).note(item);
         if let Item::Carried { .. } = item {
             let Ok(_) = self.replies.insert((query, sender)) else {
                 unreachable!();
@@ -105,17 +110,6 @@ impl Inquiries {
 }
 
 impl Inquiry {
-    /// Nothing is known of the query.
-    fn new() -> Inquiry
-        ensures { result ≡ no_inquiry }
-    {
-        Inquiry {
-            asked: None,
-            active: false,
-            explained: false,
-        }
-    }
-
     /// Notes an item that tells of the query: the first receipt counts, and each answer.
     fn note(&mut self, item: &Item)
         ensures { self.new ≡ inquiry_after item.now self.old }

@@ -1,7 +1,7 @@
 //! For each batch of a product the numbers of the tracks that may be of it: what a recall has to look at.
 
 ghost use Rattle.std.specs.Prelude.{◌≡◌};
-ghost use Rattle.mv_repository.specs.Clauses.{IfSome, List, MatchOption, OnOk, [], batch_at, has_number, is_in, lists, may_stop, option_and_then, option_copied, true, ℕ};
+ghost use Rattle.mv_repository.specs.Clauses.{IfSome, List, MatchOption, OnOk, [], batch_at, has_number, is_in, lists, may_stop, option_and_then, true, ℕ};
 
 use crate::LogEntry;
 use crate::entry::message_at;
@@ -11,16 +11,6 @@ use mv_message::Message;
 use mv_pack::Batch;
 use std::alloc::{AllocError, Global};
 use std::marker::Model;
-
-/// The batch of the packs that the entry at a place uploads.
-pub(crate) fn batch_at(log: &[LogEntry], place: u32) -> Option<&Batch>
-    ensures { option_copied result ≡ batch_at log.now place }
-{
-    match message_at(log, place as usize)? {
-        Message::Upload { batch, .. } => Some(batch),
-        _ => None,
-    }
-}
 
 /// The numbers of tracks by batch. Too many are right, and cost time alone. Where memory was refused for one, any track may be of any
 /// batch.
@@ -65,7 +55,7 @@ impl Listing {
         let Some(birth) = birth else {
             return;
         };
-        let Some(batch) = batch_at(log, birth) else {
+        let Some(Message::Upload { batch, .. }) = message_at(log, birth as usize) else {
             return;
         };
         if add_to(self.alloc, &mut self.batches, batch, number).is_err() {

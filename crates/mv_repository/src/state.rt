@@ -196,7 +196,10 @@ pub(crate) fn held_at(log: &[LogEntry], birth: u32, by: u32) -> Option<Held>
     Some(Held {
         batch: batch.copy(),
         expiry: *expiry,
-        national: national.as_ref().map(|national| national.copy()),
+        national: match national {
+            Some(national) => Some(national.copy()),
+            None => None,
+        },
         standing: standing_by(log, by),
         change: change_by(log, by),
     })

@@ -104,8 +104,13 @@ impl Inquiries {
         requires { length asked.now ≤ 64 }
         ensures { result ≡ length (filter (λ other. not (has_reply self.now q other)) asked.now) }
     {
-        let is_left = |other: &&Party| !self.replies.contains(&(q, **other));
-        asked.iter().filter(is_left).count() as u32
+        let mut left = 0;
+        for other in asked {
+            if !self.replies.contains(&(q, *other)) {
+                left += 1;
+            }
+        }
+        left
     }
 }
 

@@ -25,11 +25,12 @@ pub(crate) struct Places<'a> {
     pub withdrawal: Option<u32>,
 }
 
-/// The sender, the stamp and the message of an entry; none of a receipt.
-fn sent_of(entry: &LogEntry) -> Option<(Party, u32, &Message)>
+/// The sender, the stamp and the message of an entry, if there is one; none of a receipt.
+fn sent_of(entry: Option<&LogEntry>) -> Option<(Party, u32, &Message)>
     ensures { option_map (λ sent. record { sender = sent.0; stamp = sent.1; message = sent.2.now }) result
-        ≡ sent_in entry.now.sender entry.now.item }
+        ≡ option_and_then (λ entry. sent_in entry.sender entry.item) (option_copied entry.entry) }
 {
+    let entry = entry?;
     match &entry.item {
         Item::Carried { stamp, message, .. } => Some((entry.sender, *stamp, message.get())),
         Item::Receipt { .. } => None,
@@ -41,7 +42,7 @@ fn is_same_sent(one: Option<&LogEntry>, other: Option<&LogEntry>) -> bool
     ensures { IsTrue result ↔ (option_and_then (λ entry. sent_in entry.sender entry.item) (option_copied one.entry)
         ≡ option_and_then (λ entry. sent_in entry.sender entry.item) (option_copied other.entry)) }
 {
-    match (one.and_then(sent_of), other.and_then(sent_of)) {
+    match (sent_of(one), sent_of(other)) {
         (Some(one), Some(other)) => {
             one.0 == other.0 && one.1 == other.1 && messages_are_equal(one.2, other.2)
         }

@@ -21,13 +21,11 @@ returns-in-Some-Own-clause-ok c =
     on_map c.add_status.result c.add_status.ensures.ok (λ now.
     status-others whole place pack c.args.newest.now.last c.requires.own
     (record { slots = c.self.inside.slots.entries; tracks = c.self.inside.tracks.items; listing = c.self.inside.listing; room = spare c.self.inside.slots }) _ of
-    (key_there bytes_eq c.self.inside.slots.entries pack.serial (Own c.in-Some-Own.number) own)
-    (record {
+    (key_there bytes_eq c.self.inside.slots.entries pack.serial (Own c.in-Some-Own.number) own) (record {
       kept = search (rules, now);
       listed = subst (λ (batch : Option (List ℕ)). IfSome batch (λ one. is_listed c.self.inside.listing (lookup (bytes_eq pack.serial) c.self.inside.slots.entries) one ≡ true))
           (sym (batch-kept whole place pack c.args.newest.now.last c.requires.own)) (of.packs pack.serial).listed;
-    })
-    (λ other e. search rules) (λ other batch e h. h))
+    }) (λ other e. search rules) (λ other batch e h. h))
 
 made_is : (c : goal.After-track-1) → kept_by c.self.inside.tracks.items (lookup (bytes_eq c.args.pack.now.serial) c.self.inside.slots.entries) ≡ c.new-track.result
 made_is c = grind arith
@@ -80,5 +78,4 @@ returns-clause-ok c =
           (subst (λ (batch : Option (List ℕ)). IfSome batch (λ one. lists c.note.new.self one c.len-number.result ≡ true))
           (ap (option_and_then (batch_at whole)) (birth_is c ∙ ap (λ (k : Kept). k.birth) (of.packs pack.serial).kept.bare) ∙ batch-noted whole place pack c.args.newest.now.last c.requires.own)
           (search rules));
-    })
-    (others c) (λ other batch e h. others_listed c other batch e h)
+    }) (others c) (λ other batch e h. others_listed c other batch e h)

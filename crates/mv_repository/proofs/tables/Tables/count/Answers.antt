@@ -11,6 +11,4 @@ returns c log are =
     let fits = c.loop-shelf.invariant.fits in
     counted-whole c.args.counted log c.args.self.now c.loop-shelf.count are
     c.iter-shelf-items.ensures.unique
-    (c.loop-shelf.invariant.keyed (subst (AllByRecursion (λ shelf. IsKeyed shelf.1)) (sym none) tt))
-    (omega arith)
-    (omega (arith, left, all, fits))
+    (c.loop-shelf.invariant.keyed (subst (AllByRecursion (λ shelf. IsKeyed shelf.1)) (sym none) tt)) (omega arith) (omega (arith, left, all, fits))

@@ -129,8 +129,7 @@ module _ (log : List LogEntry) (entry : LogEntry) (tables : Stops) (gtin : List 
         by : (t : Bool) → bytes_eq serial other ≡ t → Now (has (take at all) other || t)
         by true e = subst Now (sym (or-true (has (take at all) other))) (subst (λ (o : List ℕ). IsPackOf (life_of (pack_key gtin o) (longer log entry)) new o) (same_text serial other (sym e)) mine)
         by false e =
-            subst Now (sym (or-false (has (take at all) other)))
-            (record {
+            subst Now (sym (or-false (has (take at all) other))) (record {
               kept = subst (IsKept (life_of (pack_key gtin other) (cond (has (take at all) other) (longer log entry) log))) (sym (others other e)) (are other).kept;
               listed = if-some _ (are other).listed (listed other);
             })
@@ -183,8 +182,7 @@ module _ (whole : List LogEntry) (place : ℕ) (pack : PackKey) (l : length whol
           let only = form.0 (pack_key pack.gtin serial) in
           subst (λ (l : Life). IsPackOf l new serial)
           (sym (untouched before (get_or whole place no_entry) (pack_key pack.gtin serial) only.0 (only.1 ∙ (λ i. text-self pack.gtin i && e i)) form.1)
-          ∙ ap (life_of (pack_key pack.gtin serial)) (sym (log-split whole place l)))
-          (record {
+          ∙ ap (life_of (pack_key pack.gtin serial)) (sym (log-split whole place l))) (record {
             kept = subst (IsKept (life_of (pack_key pack.gtin serial) before)) (sym (others serial e)) (are.packs serial).kept;
             listed = if-some _ (are.packs serial).listed (λ batch. listed serial batch e);
           })

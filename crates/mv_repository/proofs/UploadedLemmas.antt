@@ -91,15 +91,12 @@ new_count log entry gtin serials = distinct_count bytes_eq (filter (λ serial. n
 -- one serial number more
 module _ (log : List LogEntry) (entry : LogEntry) (gtin : List ℕ) (serials : List (List ℕ)) (upload : IsUploadOf entry.item gtin serials) where
   abbrev pub More : List LogEntry → ℕ → Type 0
-  More whole place =
-      (at count : ℕ) (is_new : Bool) → at < length serials
+  More whole place = (at count : ℕ) (is_new : Bool) → at < length serials
       → is_new ≡ comes_first whole place (track_of (pack_key gtin (get_or serials at [])) (cond (has (take at serials) (get_or serials at [])) whole log)).birth
       → count ≡ new_count log entry gtin (take at serials) → cond is_new (count + 1) count ≡ new_count log entry gtin (take (at + 1) serials)
 
   more_newest : More (longer log entry) (length log)
-  more_newest i count is_new l e h =
-      (λ j. cond ((e ∙ seen) j) (h j + 1) (h j))
-      ∙ by (has (take i serials) s) (absent s) refl
+  more_newest i count is_new l e h = (λ j. cond ((e ∙ seen) j) (h j + 1) (h j)) ∙ by (has (take i serials) s) (absent s) refl
       ∙ ap (λ (xs : List (List ℕ)). distinct_count bytes_eq xs) (sym (ap (filter absent) (take_more serials i [] l) ∙ filter-append absent (take i serials) (s ∷ [])))
     where
       s : List ℕ

@@ -141,10 +141,13 @@ impl Shelf {
         ensures count { result ≡ length (slots_counted counted self.now) }
         ensures distinct { IsDistinct bytes_eq (keys_of self.now.slots) }
     {
-        self.slots
-            .iter()
-            .filter(|slot| self.is_counted(counted, *slot.1))
-            .count()
+        let mut count = 0;
+        for (_, slot) in self.slots.iter() {
+            if self.is_counted(counted, *slot) {
+                count += 1;
+            }
+        }
+        count
     }
 
     /// Adds the newest entry, an upload, to what is kept of one pack that it names; whether it is the first such by stamp. Where it is,

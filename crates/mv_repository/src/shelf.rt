@@ -1,7 +1,7 @@
 //! What is kept of each pack of one product, by serial numbers alone. This file knows no other product.
 
 ghost use Rattle.std.specs.Prelude.{◌≡◌, ◌<◌, ◌≤◌, ◌+◌, ◌==◌};
-ghost use Rattle.mv_repository.specs.Clauses.{AreStopsOf, IfOk, IsAgain, IsDistinct, IsRefreshed, IsShelfOf, IsTrack, IsUploadOf, List, OnErr, OnOk, Some, [], bare, batch_at, bytes_eq, comes_first, earlier_place, newest_effect, entry_at, false, get_or, insert_key, is_counted, is_status_of, is_stop, kept_by, kept_in, keys_of, length, is_listed_in, may_stop, no_shelf, nothing_kept, slots_counted, stopped_product, stops_in, take, true, ℕ};
+ghost use Rattle.mv_repository.specs.Clauses.{AreStopsOf, IfOk, IsAgain, IsDistinct, IsRefreshed, IsShelfOf, IsTrack, IsUploadOf, List, OnErr, OnOk, Some, [], bare, batch_at, bytes_eq, comes_first, earlier_place, newest_effect, entry_at, false, get_or, insert_key, is_status_of, is_stop, kept_by, kept_in, keys_of, length, is_listed_in, may_stop, no_shelf, nothing_kept, slots_counted, stopped_product, stops_in, take, true, ℕ};
 
 use crate::Effect;
 use crate::entry::passes;
@@ -125,17 +125,6 @@ impl Shelf {
         self.slots.keys().as_slice()
     }
 
-    /// Whether the pack that a slot stands for is counted.
-    fn is_counted(&self, counted: Counted, slot: Slot) -> bool
-        ensures { result ≡ is_counted counted (kept_by self.now.tracks (Some slot)) }
-    {
-        let (birth, _, by) = self.kept(Some(slot));
-        match counted {
-            Counted::Every => birth.is_some(),
-            Counted::Active => birth == Some(by),
-        }
-    }
-
     /// How many packs of the product are counted.
     pub fn count(&self, counted: Counted) -> usize
         ensures count { result ≡ length (slots_counted counted self.now) }
@@ -143,7 +132,12 @@ impl Shelf {
     {
         let mut count = 0;
         for (_, slot) in self.slots.iter() {
-            if self.is_counted(counted, *slot) {
+            let (birth, _, by) = self.kept(Some(*slot));
+            let is_counted = match counted {
+                Counted::Every => birth.is_some(),
+                Counted::Active => birth == Some(by),
+            };
+            if is_counted {
                 count += 1;
             }
         }

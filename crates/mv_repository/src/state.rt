@@ -2,7 +2,7 @@
 //! the pack stands then.
 
 ghost use Rattle.std.specs.Prelude.{◌≡◌, ◌+◌, length};
-ghost use Rattle.mv_repository.specs.Clauses.{KnownChange, change_in, effect_in, effect_on, entry_at, entry_in, fold, held_at, is_active, next_in, option_map, revert_effect, standing_at, standing_in, start_in, stops_of};
+ghost use Rattle.mv_repository.specs.Clauses.{change_in, effect_in, effect_on, entry_at, entry_in, fold, held_at, is_active, next_in, revert_effect, standing_at, standing_in, start_in, stops_of};
 
 use crate::entry::{message_at, sender_at, stands_before};
 use crate::held::REVERT_SECONDS;
@@ -25,21 +25,6 @@ pub(crate) fn standing_by(log: &[LogEntry], by: u32) -> Standing
     match message_at(log, by as usize) {
         Some(Message::Status { to, .. }) => *to,
         _ => Standing::Active,
-    }
-}
-
-/// What took it from active.
-fn change_by(log: &[LogEntry], by: u32) -> Option<Change>
-    ensures { result ≡ option_map (λ (change : KnownChange). record { by = change.by; at = change.at; entry = change.entry })
-        (change_in (entry_at log.now by)) }
-{
-    match message_at(log, by as usize)? {
-        Message::Status { at, .. } => Some(Change {
-            by: sender_at(log, by as usize),
-            at: *at,
-            entry: by as usize,
-        }),
-        _ => None,
     }
 }
 
@@ -193,6 +178,14 @@ pub(crate) fn held_at(log: &[LogEntry], birth: u32, by: u32) -> Option<Held>
     else {
         return None;
     };
+    let change = match message_at(log, by as usize) {
+        Some(Message::Status { at, .. }) => Some(Change {
+            by: sender_at(log, by as usize),
+            at: *at,
+            entry: by as usize,
+        }),
+        _ => None,
+    };
     Some(Held {
         batch: batch.copy(),
         expiry: *expiry,
@@ -201,6 +194,6 @@ pub(crate) fn held_at(log: &[LogEntry], birth: u32, by: u32) -> Option<Held>
             None => None,
         },
         standing: standing_by(log, by),
-        change: change_by(log, by),
+        change,
     })
 }

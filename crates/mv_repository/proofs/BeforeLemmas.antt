@@ -86,8 +86,7 @@ grown-same : (stops stops' : FirstStops) (pack : PackKey) (x : Placed) (birth : 
 grown-same stops stops' pack x birth own same n = grind (arith, nat_tests, fold-same)
 
 -- a pack by the entries before one that comes last
-pub known-before : (log : List LogEntry) (entry : LogEntry) (pack : PackKey)
-    → known_pack pack (entries_before log entry)
+pub known-before : (log : List LogEntry) (entry : LogEntry) (pack : PackKey) → known_pack pack (entries_before log entry)
     ≡ pack_grown (first_stops (ordered log)) pack (counted (newest log entry) (first_upload pack (ordered log))) (filter (stays_before (newest log entry)) (statuses_of pack (ordered log)))
 known-before log entry pack =
     let x = newest log entry in

@@ -63,8 +63,7 @@ module _ (counted : Counted) where
   on-shelf : (shelf : ShelfTable) → IsKeyed shelf → (serial : List ℕ) → is_member bytes_eq (keys_of (slots_counted counted shelf)) serial ≡ is_counted counted (kept_in shelf serial)
   on-shelf shelf keyed serial =
       sym (is_some-lookup (bytes_eq serial) (filter (λ slot. test slot.1) shelf.slots))
-      ∙ ap is_some (lookup-filter-values nat_list_eq_equiv test serial shelf.slots keyed)
-      ∙ by (lookup (bytes_eq serial) shelf.slots)
+      ∙ ap is_some (lookup-filter-values nat_list_eq_equiv test serial shelf.slots keyed) ∙ by (lookup (bytes_eq serial) shelf.slots)
     where
       test : Slot → Bool
       test slot = is_counted counted (kept_by shelf.tracks (Some slot))
@@ -97,8 +96,7 @@ module _ (counted : Counted) where
   in-distinct (s ∷ rest) d keyed =
       distinct-append (map (pack_key s.0) (keys_of (slots_counted counted s.1))) (packs_counted counted rest)
       (distinct-product s.0 (keys_of (slots_counted counted s.1)) (IsDistinct-keys_filter bytes_eq (λ slot. is_counted counted (kept_by s.1.tracks (Some slot.1))) s.1.slots keyed.0))
-      (in-distinct rest (IsDistinct-tail bytes_eq s.0 (keys_of rest) d) keyed.1)
-      (elsewhere (keys_of (slots_counted counted s.1)))
+      (in-distinct rest (IsDistinct-tail bytes_eq s.0 (keys_of rest) d) keyed.1) (elsewhere (keys_of (slots_counted counted s.1)))
     where
       elsewhere : (serials : List (List ℕ)) → AllByRecursion (λ x. is_member is_same_pack (packs_counted counted rest) x ≡ false) (map (pack_key s.0) serials)
       elsewhere [] = tt

@@ -82,8 +82,7 @@ ascends-after : (xs : List Placed) (log : List LogEntry) → Ascends xs → AreB
 ascends-after xs [] a u = a
 ascends-after xs (entry ∷ log) a u =
     let x = placed_at (length xs) entry in
-    ascends-after (put_in x xs) log (ascends-put_in x xs a u)
-    (subst (λ n. AreBelow n (put_in x xs)) (sym (length-put_in x xs))
+    ascends-after (put_in x xs) log (ascends-put_in x xs a u) (subst (λ n. AreBelow n (put_in x xs)) (sym (length-put_in x xs))
     (put-all (λ one. one.place < length xs + 1) x xs (omega arith) (map-all (λ one. one.place < length xs) (λ one. one.place < length xs + 1) (λ one h. omega (arith, h)) xs u)))
 
 pub ordered-ascends : (log : List LogEntry) → Ascends (ordered log)
@@ -108,8 +107,7 @@ of-after : (whole : List LogEntry) (xs : List Placed) (log : List LogEntry)
 of-after whole xs [] at s = s
 of-after whole xs (first ∷ log) at s =
     let x = placed_at (length xs) first in
-    of-after whole (put_in x xs) log
-    (λ k entry h.
+    of-after whole (put_in x xs) log (λ k entry h.
     let m : length xs + suc k ≡ length (put_in x xs) + k = omega (arith, length-put_in x xs) in
     subst (λ i. slice_get whole i ≡ Some entry) m (at (suc k) entry h))
     (put-all (λ one. slice_get whole one.place ≡ Some one.entry) x xs

@@ -31,8 +31,7 @@ state-fold all before (x ∷ xs) pack known e a = grind (arith, nat_tests, state
 abbrev turn : FirstStops → PackKey → KnownPack → Placed → KnownPack
 turn stops pack held x = pack_changed (standing_at stops x) x.place x.entry.sender x.entry.item pack held
 
-next-tests : (stops : FirstStops) (pack : PackKey) (known : Option KnownPack) (x : Placed)
-    → next stops pack known x
+next-tests : (stops : FirstStops) (pack : PackKey) (known : Option KnownPack) (x : Placed) → next stops pack known x
     ≡ cond (is_upload_of pack x.entry.item) (option_or known (pack_made_by x.entry.item)) (cond (is_status_of pack x.entry.item) (option_map (λ held. turn stops pack held x) known) known)
 next-tests stops pack known x = grind (arith, nat_tests)
 

@@ -9,3 +9,6 @@ effect-newest old whole entry place e n = grind (arith, nat_tests, take_at, get_
 
 pub returns-in-Ok-add-clause-effect : goal.returns-in-Ok-add-clause-effect
 returns-in-Ok-add-clause-effect c = grind (arith, common_steps, effect-newest)
+
+pub returns-in-Err-clause-err : goal.returns-in-Err-clause-err
+returns-in-Err-clause-err c = grind (arith, common_steps)

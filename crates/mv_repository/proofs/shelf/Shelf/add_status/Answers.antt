@@ -1,6 +1,6 @@
 -- The pack has the status, and no other track is touched.
 use Rattle.std.specs.Prelude.{◌≡◌, ◌++◌, ◌∷◌}
-use Rattle.mv_repository.proofs.Lemmas.{spare, bytes_eq, rules, ◌∙◌, [], ℕ, List, IfSome, length, take, ap, sym, subst, true, false, Option, Some, lookup, option_and_then, get_or_append_left, get_or_default, Slot, Own, batch_at, is_listed, lists, life_batch, IsShelfOf, kept_by, nothing_kept, IsKept, Kept, life_of, on_map, batch-kept, batch-noted, status-others, get_or, get_or_push, refl, arith, insert_key, key_added, key_there, keys_of}
+use Rattle.mv_repository.proofs.Lemmas.{common_steps, spare, bytes_eq, rules, ◌∙◌, [], ℕ, List, IfSome, length, take, ap, sym, subst, true, false, Option, Some, lookup, option_and_then, get_or_append_left, get_or_default, Slot, Own, batch_at, is_listed, lists, life_batch, IsShelfOf, kept_by, nothing_kept, IsKept, Kept, life_of, on_map, batch-kept, batch-noted, status-others, get_or, get_or_push, refl, arith, insert_key, key_added, key_there, keys_of}
 use Rattle.mv_repository.proofs.shelf.Shelf.add_status.Goals as goal
 
 pub add_status-requires-clause-kept : goal.add_status-requires-clause-kept
@@ -26,6 +26,9 @@ returns-in-Some-Own-clause-ok c =
       listed = subst (λ (batch : Option (List ℕ)). IfSome batch (λ one. is_listed c.self.inside.listing (lookup (bytes_eq pack.serial) c.self.inside.slots.entries) one ≡ true))
           (sym (batch-kept whole place pack c.args.newest.now.last c.requires.own)) (of.packs pack.serial).listed;
     }) (λ other e. search rules) (λ other batch e h. h))
+
+pub returns-in-Some-Own-clause-err : goal.returns-in-Some-Own-clause-err
+returns-in-Some-Own-clause-err c = grind (arith, common_steps)
 
 made_is : (c : goal.After-track-1) → kept_by c.self.inside.tracks.items (lookup (bytes_eq c.args.pack.now.serial) c.self.inside.slots.entries) ≡ c.new-track.result
 made_is c = grind arith

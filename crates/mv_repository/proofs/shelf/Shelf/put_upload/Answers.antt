@@ -10,6 +10,9 @@ invariant_of-self c = record { within = λ serial number e. search (rules, c.sel
 pub returns-in-Own-clause-keys : goal.returns-in-Own-clause-keys
 returns-in-Own-clause-keys c = search (rules, key_there bytes_eq c.self.inside.slots.entries c.args.serial.now (Own c.in-Own.number) (search rules))
 
+pub returns-in-Vacant-clause-keys : goal.returns-in-Vacant-clause-keys
+returns-in-Vacant-clause-keys c = search (rules, key_added)
+
 pub returns-after-is_first-clause-keys : goal.returns-after-is_first-clause-keys
 returns-after-is_first-clause-keys c =
     elim c.if-is_first.branch [ then-is_first w ↦ search (rules, key_added) | else-is_first w ↦ search (rules, key_there bytes_eq c.self.inside.slots.entries c.args.serial.now (Made c.in-Made.first) (search rules)) ]

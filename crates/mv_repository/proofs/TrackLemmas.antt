@@ -145,8 +145,7 @@ status-form pack item h1 = search rules
 -- what is kept of a pack, once a status of it is put in
 pub track-status : (log : List LogEntry) (entry : LogEntry) (tables : Stops) (pack : PackKey) (kept : Kept) → AreStopsOf log tables → is_status_of pack entry.item ≡ true
     → kept.birth ≡ (track_of pack log).birth → kept.statuses ≡ put_place (longer log entry) (length log) (track_of pack log).statuses
-    → IsTrack (longer log entry) (stops_in (longer log entry) tables) pack.gtin kept
-    → IsKept (life_of pack (longer log entry)) kept
+    → IsTrack (longer log entry) (stops_in (longer log entry) tables) pack.gtin kept → IsKept (life_of pack (longer log entry)) kept
 track-status log entry tables pack kept stops own b p w = grind (arith, nat_tests, filter-some, find-none, stops-stay, track-is)
 
 -- the effect of a status

@@ -52,8 +52,7 @@ uploaded-found log pack = grind (arith, nat_tests, any-ordered (is_upload_of pac
 pub first-effect : (f : Placed → Bool) (log : List LogEntry) (entry : LogEntry) (first : Option ℕ) → first ≡ option_map place_of (find f (ordered log))
     → comes_first (longer log entry) (length log) first ≡ not (is_before (find f (ordered log)) (newest log entry))
 first-effect f log entry first e =
-    ap (comes_first (longer log entry) (length log)) e
-    ∙ by (find f (ordered log)) (find-stand f (longer log entry) (ordered log) (still-stand log entry))
+    ap (comes_first (longer log entry) (length log)) e ∙ by (find f (ordered log)) (find-stand f (longer log entry) (ordered log) (still-stand log entry))
     ∙ ap not (counted-before (newest log entry) (find f (ordered log)) (find-below f (length log) (ordered log) (ordered-below log)))
   where
     by : (o : Option Placed) → IfSome o (λ y. get_or (longer log entry) y.place no_entry ≡ y.entry) → comes_first (longer log entry) (length log) (option_map place_of o) ≡ not (is_some (counted (newest log entry) o))
@@ -132,8 +131,7 @@ module _ (log : List LogEntry) (entry : LogEntry) (gtin : List ℕ) (serials : L
       by b false a = grind (arith, nat_tests, append-nil)
       by b true a =
           ap (λ t. cond (not t && true) (distinct_count bytes_eq front + 1) (distinct_count bytes_eq front)) (has_is ∙ sym (and-true (is_member bytes_eq (take i serials) s)) ∙ ap (λ t. is_member bytes_eq (take i serials) s && t) (sym a) ∙ sym member)
-          ∙ count_cases (is_member bytes_eq front s) (distinct_count bytes_eq front)
-          ∙ sym (distinct_push bytes_eq nat_list_eq_equiv front s)
+          ∙ count_cases (is_member bytes_eq front s) (distinct_count bytes_eq front) ∙ sym (distinct_push bytes_eq nat_list_eq_equiv front s)
         where
           count_cases : (t : Bool) (n : ℕ) → cond (not t && true) (n + 1) n ≡ n + cond t 0 1
           count_cases t n = grind (arith, nat_tests)

@@ -2,8 +2,8 @@
 pub use Rattle.mv_pack.specs.Keys.{batch_key, is_same_pack}
 pub use Rattle.mv_repository.specs.Agreement.{AgreeOn, HasDistinctStamps, HaveSameAbout, HaveSameEntries, HaveSameHistory, about, as_sent, history_at, history_of, sent_in, sent_status}
 pub use Rattle.mv_repository.specs.Repository.{counts_of, uploaded_packs, items_from, new_repository, product_of, serials_of, with_applied}
-pub use Rattle.mv_repository.specs.Pack.{code_of, effect_of, ChangeNamesStatus, KnownChange, is_active, is_recalled, is_withdrawn, known_pack, pack_state, revert_effect}
-pub use Rattle.mv_repository.specs.Tables.{AreMastersOf, AreTablesOf, is_master, HasRoom, IsInquiriesOf, has_reply, inquiry_after, no_inquiry, query_of}
+pub use Rattle.mv_repository.specs.Pack.{code_of, effect_of, ChangeNamesStatus, is_active, is_recalled, is_withdrawn, known_pack, pack_state, revert_effect}
+pub use Rattle.mv_repository.specs.Tables.{AreMastersOf, AreTablesOf, is_master, HasRoom, IsInquiriesOf, has_reply, inquiry_after, query_of}
 pub use Rattle.mv_repository.specs.Order.{Ascends, IsOrderOf, ordered, passes, rank, stands_before}
 pub use Rattle.mv_repository.specs.Shelf.{IsAgain, IsRefreshed, IsShelfOf, IsUploadOf, has_number, is_counted, is_in, is_listed_in, kept_by, kept_in, lists, may_stop, no_shelf, nothing_kept, slots_counted}
 pub use Rattle.mv_repository.specs.Track.{batch_at, change_in, effect_in, effect_on, entry_in, held_at, newest_effect, next_in, standing_in, start_in, stops_of, AreBlocks, IsCovered, IsCut, IsFront, IsKept, IsSummary, IsTrack, bare, first_upload, is_status_of, life_of, pack_grown, statuses_of, track_of, without}

@@ -21,8 +21,14 @@ returns-after-is_first-clause-keys c =
 again_at : (place : ℕ) {log : List LogEntry} {stops : FirstStops} {gtin : List ℕ} {track track' old new : Kept} → old ≡ track → new ≡ track' → IsAgain log stops gtin (earlier_place log place track.birth) track track' → IsAgain log stops gtin (earlier_place log place old.birth) old new
 again_at place {log} {stops} {gtin} {track} {track'} {old} {new} e f again = subst (λ (k : Kept). IsAgain log stops gtin (earlier_place log place k.birth) k new) (sym e) (subst (IsAgain log stops gtin (earlier_place log place track.birth) track) (sym f) again)
 
-pub returns-in-Own-clause-again : goal.returns-in-Own-clause-again
-returns-in-Own-clause-again c =
+-- the pack has the track of its number
+own_is : (c : goal.After-note) → kept_by c.self.inside.tracks.items (lookup (bytes_eq c.args.serial.now) c.self.inside.slots.entries) ≡ c.index_mut-track.result.now
+own_is c =
     let slot : lookup (bytes_eq c.args.serial.now) c.self.inside.slots.entries ≡ Some (Own c.in-Own.number) = search rules in
-    let track = get_or_default c.self.inside.tracks.items c.in-Own.number nothing_kept c.index_mut-track.result.now (c.self.invariant.within c.args.serial.now c.in-Own.number slot) ∙ sym c.index_mut-track.ensures.value in
-    again_at c.args.newest.now.place (search (rules, ap (kept_by c.self.inside.tracks.items) slot ∙ track)) (search rules) c.add_upload-is_first.ensures.again
+    ap (kept_by c.self.inside.tracks.items) slot ∙ get_or_default c.self.inside.tracks.items c.in-Own.number nothing_kept c.index_mut-track.result.now (c.self.invariant.within c.args.serial.now c.in-Own.number slot) ∙ sym c.index_mut-track.ensures.value
+
+pub returns-in-Own-clause-again : goal.returns-in-Own-clause-again
+returns-in-Own-clause-again c = again_at c.args.newest.now.place (search (rules, own_is c)) (search rules) c.add_upload-is_first.ensures.again
+
+pub returns-in-Own-clause-first : goal.returns-in-Own-clause-first
+returns-in-Own-clause-first c = search (rules, own_is c)

@@ -21,8 +21,7 @@ module _ (whole : List LogEntry) (place : ℕ) (tables : Stops) (gtin : List ℕ
 
   is_worked : (serial : List ℕ) (was kept : Kept) → IsOf log serial was → IsAgain whole (stops_in whole tables) gtin was.birth was kept → IsOf whole serial kept
   is_worked serial was kept e a =
-      track-is whole tables (pack_key gtin serial) kept stops
-      (a.birth ∙ ap (λ (k : Kept). k.birth) e.bare ∙ sym (ap (option_map place_of) (first-stays serial)))
+      track-is whole tables (pack_key gtin serial) kept stops (a.birth ∙ ap (λ (k : Kept). k.birth) e.bare ∙ sym (ap (option_map place_of) (first-stays serial)))
       (a.statuses ∙ ap (λ (k : Kept). k.statuses) e.bare ∙ sym (ap (map place_of) (own-stay serial))) a.worked
 
   -- what has no status stands by its upload

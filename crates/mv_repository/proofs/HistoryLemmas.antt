@@ -72,8 +72,7 @@ state-sent : (pack : PackKey) (log : List LogEntry) → option_map unplaced (kno
 state-sent pack log =
     let stops = first_stops (ordered log) in
     let upload = first_upload pack (ordered log) in
-    ap (option_map unplaced) (known-grown pack (ordered log) (ordered-ascends log))
-    ∙ grown-sent stops pack upload (statuses_of pack (ordered log))
+    ap (option_map unplaced) (known-grown pack (ordered log) (ordered-ascends log)) ∙ grown-sent stops pack upload (statuses_of pack (ordered log))
     ∙ ap (λ (batch : Option (List ℕ)). option_map (λ held. fold (step_of pack) held (map (status stops pack upload batch) (statuses_of pack (ordered log)))) (made_of (option_and_then sent_of upload)))
     (sym (batch-upload pack log))
 

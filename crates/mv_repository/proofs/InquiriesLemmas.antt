@@ -59,8 +59,7 @@ known_stays party log sender item known nothing is = grind (arith, nat_tests, in
 pub receipt_noted : (party : ℕ) (log : List LogEntry) (sender : ℕ) (item : Item) (asked : ℕ) (known known' : Inquiries)
     → ((k stamp : ℕ) (message : Message) → item ≡ Carried k stamp message → ⊥) → query_of party sender item ≡ Some asked
     → ((q : ℕ) → inquiry_in known' q ≡ cond (asked == q) (inquiry_after item (inquiry_in known q)) (inquiry_in known q))
-    → ((q other : ℕ) → has_reply known' q other ≡ has_reply known q other)
-    → IsInquiriesOf party log known → IsInquiriesOf party (with_entry log sender item) known'
+    → ((q other : ℕ) → has_reply known' q other ≡ has_reply known q other) → IsInquiriesOf party log known → IsInquiriesOf party (with_entry log sender item) known'
 receipt_noted party log sender (Receipt k reach query) asked known known' form told inquiries replies is = grind (arith, nat_tests, inquiry-more, replies-more)
 receipt_noted party log sender (Carried k stamp message) asked known known' form told inquiries replies is = absurd (form k stamp message refl)
 

@@ -109,8 +109,7 @@ of-after whole xs (first ∷ log) at s =
     let x = placed_at (length xs) first in
     of-after whole (put_in x xs) log (λ k entry h.
     let m : length xs + suc k ≡ length (put_in x xs) + k = omega (arith, length-put_in x xs) in
-    subst (λ i. slice_get whole i ≡ Some entry) m (at (suc k) entry h))
-    (put-all (λ one. slice_get whole one.place ≡ Some one.entry) x xs
+    subst (λ i. slice_get whole i ≡ Some entry) m (at (suc k) entry h)) (put-all (λ one. slice_get whole one.place ≡ Some one.entry) x xs
     (let m : length xs + 0 ≡ length xs = omega arith in subst (λ i. slice_get whole i ≡ Some first) m (at 0 first refl))
     s)
 

@@ -15,8 +15,7 @@ kept-found log shelves pack shelf e of = ap (λ (o : Option ShelfTable). bare (k
 pub upload-away : (whole : List LogEntry) (place : ℕ) (gtin : List ℕ) (serials : List (List ℕ)) → length whole ≡ place + 1 → IsUploadOf (get_or whole place no_entry).item gtin serials
     → (other : List ℕ) → bytes_eq gtin other ≡ false → AreSamePacks whole (take place whole) other
 upload-away whole place gtin serials l upload other e = (
-  λ serial. ap (life_of (pack_key other serial)) (log-split whole place l)
-      ∙ untouched (take place whole) entry (pack_key other serial) (is serial entry.item upload)
+  λ serial. ap (life_of (pack_key other serial)) (log-split whole place l) ∙ untouched (take place whole) entry (pack_key other serial) (is serial entry.item upload)
       ((upload-form entry.item gtin serials upload).0 (pack_key other serial)) (upload-form entry.item gtin serials upload).1,
   serials-at whole place other [] l (upload-serials other gtin serials entry.item upload ∙ ap (λ b. cond b serials []) e),
 )

@@ -100,8 +100,7 @@ module _ (log : List LogEntry) (entry : LogEntry) (tables : Stops) (gtin : List 
     abbrev pub Adds : List LogEntry → ℕ → List (List ℕ) → ℕ → ShelfTable → List ℕ → Type 0
     Adds whole place all at new serial =
         all ≡ serials → at < length all → serial ≡ get_or all at [] → ArePacksOf whole log (take at all) gtin old
-        → (kept_in new serial).birth ≡ earlier_place whole place (kept_in old serial).birth
-        → (kept_in new serial).statuses ≡ (kept_in old serial).statuses
+        → (kept_in new serial).birth ≡ earlier_place whole place (kept_in old serial).birth → (kept_in new serial).statuses ≡ (kept_in old serial).statuses
         → IsTrack whole (stops_in whole tables) gtin (kept_in new serial)
         → ((other : List ℕ) → bytes_eq serial other ≡ false → kept_in new other ≡ kept_in old other)
         → ((other batch : List ℕ) → is_listed old.listing (lookup (bytes_eq other) old.slots) batch ≡ true → is_listed new.listing (lookup (bytes_eq other) new.slots) batch ≡ true)

@@ -12,3 +12,12 @@ returns-in-Ok-add-clause-effect c = grind (arith, common_steps, effect-newest)
 
 pub returns-in-Err-clause-err : goal.returns-in-Err-clause-err
 returns-in-Err-clause-err c = grind (arith, common_steps)
+
+pub add-requires-clause-tables : goal.add-requires-clause-tables
+add-requires-clause-tables c = grind (arith, common_steps)
+
+pub invariant_of-self-in-Err : goal.invariant_of-self-in-Err
+invariant_of-self-in-Err c = grind (arith, common_steps)
+
+pub invariant_of-self-in-Err-2 : goal.invariant_of-self-in-Err-2
+invariant_of-self-in-Err-2 c = grind (arith, common_steps)

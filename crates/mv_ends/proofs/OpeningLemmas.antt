@@ -1,6 +1,6 @@
 -- Lists of ends that are opened together.
-use Rattle.std.proofs.Common.{◌≡◌, ◌∙◌, ◌<◌, ◌+◌, ℕ, List, [], ◌∷◌, ◌++◌, length, map, get_or, replicate, sym, ap, arith}
-use Rattle.mv_ends.proofs.Words.{common_steps, nat_tests, Global, Vec, sent, received, producer_capacity, Message, Frame, SiteState, new_hub, new_site, opening, HubEnd, RepoEnd, HubSeat, Inlet, Outlet, each_row, ring_put, ring_taken, inflow_of, table_of, repo_seat, IsSeatOf, AreEmpty, AreEnds, IsOpened, AreLinks, sites_of, state_of, map-append, length-map}
+use Rattle.std.proofs.Common.{◌≡◌, ◌∙◌, ◌<◌, ◌+◌, ℕ, List, [], ◌∷◌, ◌++◌, length, map, get_or, replicate, sym, ap, subst, arith}
+use Rattle.mv_ends.proofs.Words.{IsSquare, common_steps, nat_tests, Global, Vec, sent, received, producer_capacity, Message, Frame, SiteState, new_hub, new_site, opening, HubEnd, RepoEnd, HubSeat, Inlet, Outlet, each_row, ring_put, ring_taken, inflow_of, table_of, repo_seat, IsSeatOf, AreEmpty, AreEnds, IsOpened, AreLinks, sites_of, state_of, map-append, length-map}
 use Rattle.mv_machine.specs.Limits.{Bounds}
 use Rattle.std.specs.List.{range_with_len}
 use Rattle.std.proofs.Math.ListN.{get_or-append}
@@ -57,7 +57,14 @@ module _ (parties : List (List (List ℕ))) (limits : Bounds) (opened : ℕ) (up
       seats = λ party absent below. grind (arith, nat_tests, common_steps, seat_new, seat_kept);
     }
 
-  -- once all are opened, the ends are those of one opening
+  -- once all are opened, there is a link for each pair of them
+  pub square_of : opened ≡ length parties → IsSquare (length parties) (each_row sent rows)
+  square_of all = record {
+    rows = length-map rows (λ (row : Vec (Outlet Frame) Global). map sent row.items) ∙ was.rows_each ∙ all;
+    row = λ to below. was.wide to (subst (λ n. to < n) (sym all) below);
+  }
+
+  -- and the ends are those of one opening
   pub ends_of : opened ≡ length parties → (hub : HubEnd) → hub.hub ≡ new_hub parties limits.window → hub.limits ≡ limits → hub.uplinks ≡ inflow_of uplinks → hub.wires ≡ table_of rows
       → AreEnds hub repos
   ends_of all hub is bounds at_uplinks at_wires = grind (arith, nat_tests, common_steps)

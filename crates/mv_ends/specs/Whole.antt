@@ -1,8 +1,9 @@
 -- All ends of one opening, and what they are as the lists of the list machine.
-use Rattle.std.specs.Prelude.{◌≡◌, ℕ, ◌<◌, List, [], length, map, slice_index_or}
-use Rattle.mv_ends.specs.Words.{All, Bounds, Frame, Message, new_site, received, SiteState, IsLawful, IsWellFormed}
+use Rattle.std.specs.Prelude.{◌≡◌, ℕ, ◌<◌, ◌∷◌, ◌++◌, List, [], length, map, slice_index_or}
+use Rattle.mv_ends.specs.Words.{All, Bounds, Frame, Global, Message, Vec, new_site, received, SiteState, IsLawful, IsWellFormed}
 use Rattle.mv_machine.specs.State.{State, opening}
 use Rattle.mv_ends.specs.declared.hub_end.HubEnd.{HubEnd}
+use Rattle.mv_ends.specs.declared.opening.Opened.{Opened}
 use Rattle.mv_ends.specs.declared.repo_end.RepoEnd.{RepoEnd}
 use Rattle.mv_ends.specs.Rings.{AreLinks, Inlet, Outlet, Ring, ring_put, ring_taken}
 use Rattle.mv_ends.specs.HubEnd.{HubSeat, hub_seat}
@@ -16,6 +17,16 @@ pub record IsOpened (party count : ℕ) (limits : Bounds) (repo : RepoEnd) (upli
   pub untaken : received uplink ≡ []
   pub size : (ring_put repo.uplink).size ≡ limits.uplink
   pub links : AreLinks count limits.wire row repo.inlets
+
+-- the ends that were opened for the parties so far, with those of the next
+pub record AddsOpened (party count : ℕ) (limits : Bounds) (old new : Opened) : Type 0 where
+  pub repo : RepoEnd
+  pub uplink : Inlet Message
+  pub row : Vec (Outlet Frame) Global
+  pub opened : IsOpened party count limits repo uplink row.items
+  pub uplinks : new.uplinks.items ≡ old.uplinks.items ++ uplink ∷ []
+  pub rows : new.rows.items ≡ old.rows.items ++ row ∷ []
+  pub repos : new.repos.items ≡ old.repos.items ++ repo ∷ []
 
 -- What stays of a repository's end is that of a party at this end of the hub: it holds the other ends of the hub's rings to and from the
 -- party, one to it from each, which are of the sizes that the limits give.

@@ -1,9 +1,9 @@
 //! The ends of one opening.
 
-ghost use Rattle.std.specs.Prelude.{◌≡◌, IfOk};
+ghost use Rattle.std.specs.Prelude.{◌≡◌, IfOk, OnOk};
 ghost use Rattle.mv_machine.specs.State.{opening};
 ghost use Rattle.mv_ends.specs.Rings.{AreLinks};
-ghost use Rattle.mv_ends.specs.Whole.{AreEnds, IsOpened, state_of};
+ghost use Rattle.mv_ends.specs.Whole.{AddsOpened, AreEnds, IsOpened, state_of};
 
 use crate::hub_end::HubEnd;
 use crate::inlets::Inlets;
@@ -23,6 +23,17 @@ type Uplink = Consumer<Parcel<Shared<Message>>>;
 /// The hub's ends of the links to one party, by sender.
 type Outlets = Vec<Producer<Parcel<Frame>>>;
 
+/// The ends that were opened for the parties so far, party 0 first.
+#[derive(Drop)]
+struct Opened {
+    /// The hub's ends of the uplinks.
+    uplinks: Vec<Uplink>,
+    /// The hub's ends of the links to each.
+    rows: Vec<Outlets>,
+    /// Their own ends.
+    repos: Vec<RepoEnd>,
+}
+
 /// The ends of a system where nothing has happened: the hub's, and that of each repository, in order of party. There is a ring
 /// for the uplink of each party, and one for each ordered pair, of the sizes that the limits give. Refused for want of memory.
 pub fn open(
@@ -34,18 +45,34 @@ pub fn open(
     ensures fresh { IfOk result (λ ends. state_of ends.0 ends.1.items ≡ opening parties limits) }
 {
     let count = parties.len();
-    let mut uplinks = Vec::new(alloc);
-    let mut rows = Vec::new(alloc);
-    let mut repos = Vec::new(alloc);
+    let mut opened = Opened {
+        uplinks: Vec::new(alloc),
+        rows: Vec::new(alloc),
+        repos: Vec::new(alloc),
+    };
     for party in 0..count {
-        let (repo, uplink, row) = open_party(alloc, party, count, limits)?;
-        uplinks.push(uplink)?;
-        rows.push(row)?;
-        repos.push(repo)?;
+        opened.add(alloc, party, count, limits)?;
     }
-    let (uplinks, wires) = (Inlets::new(uplinks), Wires::new(rows));
+    let (uplinks, wires) = (Inlets::new(opened.uplinks), Wires::new(opened.rows));
     let hub = HubEnd::new(alloc, parties, limits, uplinks, wires)?;
-    Ok((hub, repos))
+    Ok((hub, opened.repos))
+}
+
+impl Opened {
+    /// Opens the ends for the next of so many parties.
+    fn add(&mut self, alloc: Global, party: u32, count: u32, limits: Limits) -> Result<(), AllocError>
+        ensures { OnOk result (AddsOpened party count limits self.old self.new) }
+    {
+        self.uplinks.reserve(1)?;
+        self.rows.reserve(1)?;
+        self.repos.reserve(1)?;
+        let (repo, uplink, row) = open_party(alloc, party, count, limits)?;
+        // Nothing fails from here on.
+        self.uplinks.push_reserved(uplink);
+        self.rows.push_reserved(row);
+        self.repos.push_reserved(repo);
+        Ok(())
+    }
 }
 
 /// The end of one of so many parties, and the hub's ends of its uplink and of the links to it.
@@ -68,12 +95,12 @@ fn open_party(
 fn open_links(alloc: Global, count: u32, room: u32) -> Result<(Outlets, Inlets<Frame>), AllocError>
     ensures { IfOk result (λ ends. AreLinks count room ends.0.items ends.1) }
 {
-    let mut outlets = Vec::new(alloc);
-    let mut inlets = Vec::new(alloc);
+    let mut outlets = Vec::with_capacity(alloc, count as usize)?;
+    let mut inlets = Vec::with_capacity(alloc, count as usize)?;
     for _from in 0..count {
         let (producer, consumer) = RingBuffer::<Parcel<Frame>>::new(alloc, room as usize)?;
-        outlets.push(producer)?;
-        inlets.push(consumer)?;
+        outlets.push_reserved(producer);
+        inlets.push_reserved(consumer);
     }
     Ok((outlets, Inlets::new(inlets)))
 }

@@ -3,7 +3,7 @@
 ghost use Rattle.std.specs.Prelude.{◌≡◌, IfOk, OnOk};
 ghost use Rattle.mv_machine.specs.State.{opening};
 ghost use Rattle.mv_ends.specs.Rings.{AreLinks};
-ghost use Rattle.mv_ends.specs.Whole.{AddsOpened, AreEnds, IsOpened, state_of};
+ghost use Rattle.mv_ends.specs.Whole.{AddsOpened, AreEnds, state_of};
 
 use crate::hub_end::HubEnd;
 use crate::inlets::Inlets;
@@ -17,9 +17,6 @@ use mv_message::{Message, Shared};
 use rtrb::{Consumer, Producer, RingBuffer};
 use std::alloc::{AllocError, Global};
 
-/// The hub's end of a party's uplink.
-type Uplink = Consumer<Parcel<Shared<Message>>>;
-
 /// The hub's ends of the links to one party, by sender.
 type Outlets = Vec<Producer<Parcel<Frame>>>;
 
@@ -27,7 +24,7 @@ type Outlets = Vec<Producer<Parcel<Frame>>>;
 #[derive(Drop)]
 struct Opened {
     /// The hub's ends of the uplinks.
-    uplinks: Vec<Uplink>,
+    uplinks: Vec<Consumer<Parcel<Shared<Message>>>>,
     /// The hub's ends of the links to each.
     rows: Vec<Outlets>,
     /// Their own ends.
@@ -59,36 +56,29 @@ pub fn open(
 }
 
 impl Opened {
-    /// Opens the ends for the next of so many parties.
-    fn add(&mut self, alloc: Global, party: u32, count: u32, limits: Limits) -> Result<(), AllocError>
+    /// Opens the ends of the next of so many parties: its own, and the hub's of its uplink and of the links to it.
+    fn add(
+        &mut self,
+        alloc: Global,
+        party: u32,
+        count: u32,
+        limits: Limits,
+    ) -> Result<(), AllocError>
         ensures { OnOk result (AddsOpened party count limits self.old self.new) }
     {
         self.uplinks.reserve(1)?;
         self.rows.reserve(1)?;
         self.repos.reserve(1)?;
-        let (repo, uplink, row) = open_party(alloc, party, count, limits)?;
+        let (row, inlets) = open_links(alloc, count, limits.wire())?;
+        let room = limits.uplink() as usize;
+        let (producer, uplink) = RingBuffer::<Parcel<Shared<Message>>>::new(alloc, room)?;
+        let repo = RepoEnd::new(alloc, party, count, limits, producer, inlets)?;
         // Nothing fails from here on.
         self.uplinks.push_reserved(uplink);
         self.rows.push_reserved(row);
         self.repos.push_reserved(repo);
         Ok(())
     }
-}
-
-/// The end of one of so many parties, and the hub's ends of its uplink and of the links to it.
-fn open_party(
-    alloc: Global,
-    party: u32,
-    count: u32,
-    limits: Limits,
-) -> Result<(RepoEnd, Uplink, Outlets), AllocError>
-    ensures { IfOk result (λ ends. IsOpened party count limits ends.0 ends.1 ends.2.items) }
-{
-    let (row, inlets) = open_links(alloc, count, limits.wire())?;
-    let room = limits.uplink() as usize;
-    let (producer, uplink) = RingBuffer::<Parcel<Shared<Message>>>::new(alloc, room)?;
-    let repo = RepoEnd::new(alloc, party, count, limits, producer, inlets)?;
-    Ok((repo, uplink, row))
 }
 
 /// The two ends of the links to one party from so many.

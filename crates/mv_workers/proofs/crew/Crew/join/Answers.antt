@@ -1,5 +1,5 @@
 use Rattle.std.proofs.Common.{◌∙◌, [], ◌∷◌, ◌++◌, length, map, append_assoc, refl, ap, sym, subst, arith, rules}
-use Rattle.mv_workers.proofs.Words.{into_iter_items, AreSameRepos, AreBegun, end_of, work_of}
+use Rattle.mv_workers.proofs.Words.{AreSameRepos, AreBegun, end_of, work_of}
 use Rattle.mv_workers.proofs.CrewLemmas.{all_started, none_begun, begun_more}
 use Rattle.mv_workers.proofs.crew.Crew.join.Goals as goal
 
@@ -34,11 +34,9 @@ loop-handle-preserved g c =
 pub returns-clause-repos : goal.returns-clause-repos
 returns-clause-repos g c =
     let was = c.loop-handle.invariant in
-    subst (λ done. AreSameRepos (map end_of done) c.loop-handle.repos.items)
-    (all_started was.0.0 (into_iter_items c.loop-handle.handle-iterator) c.args.handles.items was.0.1 (was.1 ∙ c.in-None.ensures.steps.0)) was.0.2
+    subst (λ done. AreSameRepos (map end_of done) c.loop-handle.repos.items) (all_started was.0.0 _ c.args.handles.items was.0.1 (was.1 ∙ c.in-None.ensures.steps.0)) was.0.2
 
 pub returns-clause-begun : goal.returns-clause-begun
 returns-clause-begun g c =
     let was = c.loop-handle.invariant in
-    subst (λ done. AreBegun (map work_of done) c.loop-handle.repos.items c.loop-handle.all)
-    (all_started was.0.0 (into_iter_items c.loop-handle.handle-iterator) c.args.handles.items was.0.1 (was.1 ∙ c.in-None.ensures.steps.0)) was.0.3
+    subst (λ done. AreBegun (map work_of done) c.loop-handle.repos.items c.loop-handle.all) (all_started was.0.0 _ c.args.handles.items was.0.1 (was.1 ∙ c.in-None.ensures.steps.0)) was.0.3

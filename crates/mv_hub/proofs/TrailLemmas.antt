@@ -1,10 +1,13 @@
 -- What one more entry changes in what the record says of products and batches.
-use Rattle.std.proofs.Common.{◌≡◌, ℕ, List, [], ◌∷◌, ◌++◌, Option, Some, None, refl, arith, option_to_list, unwrap_or, rules}
-use Rattle.mv_hub.proofs.Words.{AreTables, BatchKey, Entry, LinkTable, Listing, catalogue_after, catalogue_in, filter_map-append, is_same_listing, last_or, last_product, link_in, linked_in, linked_to, listing_equiv, no_catalogue, option_or, product_in}
+use Rattle.std.proofs.Common.{◌≡◌, ℕ, List, [], ◌∷◌, ◌++◌, Option, Some, None, refl, arith, option_to_list, unwrap_or, rules, cond, append-nil}
+use Rattle.std.specs.Map.{lookup}
+use Rattle.std.specs.declared.alloc.Global.{Global}
+use Rattle.std.specs.declared.vec.Vec.{Vec}
+use Rattle.mv_hub.proofs.Words.{AreTables, BatchKey, Entry, LinkTable, Listing, catalogue_after, catalogue_in, filter_map-append, is_same_batch, is_same_listing, last_or, last_product, link_in, linked_in, linked_to, listing_equiv, no_catalogue, option_or, product_in}
 use Rattle.mv_message.specs.declared.message.Product.{Product}
 use Rattle.mv_hub.specs.declared.catalogue.Catalogue.{Catalogue}
 use Rattle.mv_hub.specs.Catalogue.{listing_in, batches_of}
-use Rattle.mv_hub.proofs.ListingLemmas.{listing-same, add_to, distinct-named}
+use Rattle.mv_hub.proofs.ListingLemmas.{batch-same, listing-same, add_to, distinct-named}
 
 -- an empty record says nothing
 pub tables_none : AreTables [] [] []
@@ -35,6 +38,14 @@ links-push entries entry batch = grind (arith, filter_map-append (link_in batch)
 abbrev pub known : Option Catalogue → Option Product → Option Listing → Option Catalogue
 known catalogue None None = catalogue
 known catalogue product listing = Some (catalogue_after (unwrap_or catalogue no_catalogue) product listing)
+
+-- a table of batches after, once more were put behind those of one batch, whose list is made where it has none
+pub linked-put : (old new : LinkTable) (before : BatchKey) (read none written : Vec BatchKey Global) (more : List BatchKey)
+    → ((other : BatchKey) → lookup (is_same_batch other) new ≡ cond (is_same_batch before other) (Some written) (lookup (is_same_batch other) old))
+    → read ≡ unwrap_or (lookup (is_same_batch before) old) none → none.items ≡ [] → written.items ≡ read.items ++ more
+    → (other : BatchKey) → linked_in new other ≡ linked_in old other ++ cond (is_same_batch before other) more []
+linked-put old new before read none written more put reads empty pushed other =
+    grind (arith, put other, batch-same before other, append-nil {A = BatchKey})
 
 -- the tables once one more entry stands at the end, where they changed by what that says
 pub tables-push : (entries : List Entry) (entry : Entry) (old new : List (List ℕ × Catalogue)) (old_links new_links : LinkTable)

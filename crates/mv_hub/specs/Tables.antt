@@ -1,10 +1,11 @@
 -- What the tables of the hub hold by its record, and how an entry changes them: words of the inside.
-use Rattle.std.specs.Prelude.{List, [], ◌∷◌, ◌++◌, ◌+◌, ◌==◌, ◌≡◌, ◌↔◌, ◌⊎◌, Contains, Option, Some, None, Bool, false, if◌then◌else◌, ℕ, bytes_eq, length, slice_index}
-use Rattle.mv_hub.specs.Words.{BatchKey, IsEquivalence, Product, and_equiv, is_same_batch, list_any, nat_eq_equiv, nat_list_eq_equiv, on_equiv, option_map_or, option_or}
+use Rattle.std.specs.Prelude.{List, [], ◌∷◌, ◌++◌, ◌+◌, ◌==◌, ◌≡◌, ◌↔◌, ◌⊎◌, Contains, Option, Some, None, Bool, false, if◌then◌else◌, ℕ, bytes_eq, length, slice_index, unwrap_or}
+use Rattle.mv_hub.specs.Words.{BatchKey, IsEquivalence, Message, Product, Upload, and_equiv, is_same_batch, list_any, nat_eq_equiv, nat_list_eq_equiv, on_equiv, option_map_or, option_or}
 use Rattle.mv_hub.specs.declared.catalogue.Catalogue.{Catalogue}
 use Rattle.std.specs.Map.{lookup}
 use Rattle.std.specs.declared.alloc.Global.{Global}
 use Rattle.std.specs.declared.vec.Vec.{Vec}
+use Rattle.mv_hub.specs.Record.{product_of}
 use Rattle.mv_hub.specs.Listing.{Listing, is_same_listing}
 use Rattle.mv_pack.specs.Market.{IsMarket, place_of}
 use Rattle.mv_pack.specs.declared.market.TheConstants.{MARKETS_LIMIT}
@@ -37,6 +38,11 @@ abbrev pub catalogue_after : Catalogue → Option Product → Option Listing →
 catalogue_after catalogue product listing =
     record { product = option_or product catalogue.product; batches = with_listing catalogue.batches listing }
 
+-- the batch and its expiry that a message lists: those of an upload
+abbrev pub listing_of : Message → Option Listing
+listing_of (Upload gtin batch expiry national serials) = Some (batch, expiry)
+listing_of message = None
+
 -- what a table says of a product
 abbrev pub catalogue_in : List (List ℕ × Catalogue) → List ℕ → Option Catalogue
 catalogue_in table gtin = lookup (bytes_eq gtin) table
@@ -45,6 +51,13 @@ pub listing_equiv : IsEquivalence is_same_listing
 listing_equiv =
     and_equiv (and_equiv (and_equiv (on_equiv (λ (p : Listing). p.0) nat_list_eq_equiv) (on_equiv (λ (p : Listing). p.1.year) nat_eq_equiv))
     (on_equiv (λ (p : Listing). p.1.month) nat_eq_equiv)) (on_equiv (λ (p : Listing). p.1.day) nat_eq_equiv)
+
+-- in a table of products what a message says of one was noted
+abbrev pub Notes : List (List ℕ × Catalogue) → List (List ℕ × Catalogue) → List ℕ → Message → Type 0
+Notes old new gtin message = (other : List ℕ) → catalogue_in new other
+    ≡ (if bytes_eq gtin other
+    then Some (catalogue_after (unwrap_or (catalogue_in old gtin) no_catalogue) (product_of message) (listing_of message))
+    else catalogue_in old other)
 
 -- a look-up found this party
 abbrev pub is_found : Option ℕ → ℕ → Bool

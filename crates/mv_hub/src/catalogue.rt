@@ -1,6 +1,6 @@
 //! What the hub shows of a product.
 
-ghost use Rattle.std.specs.Prelude.{◌≡◌, ◌∷◌, ◌++◌, [], OnOk, OnErr};
+ghost use Rattle.std.specs.Prelude.{◌≡◌};
 ghost use Rattle.mv_hub.specs.Words.{lists_equiv, option_copied, option_eq, options_equiv, partial_equiv_from_equiv, pointwise};
 ghost use Rattle.mv_message.specs.contracts.message.ProductEq.TheImpl.Laws.{laws-law};
 ghost use Rattle.mv_hub.specs.Record.{product_of};
@@ -9,14 +9,13 @@ ghost use Rattle.mv_hub.specs.Tables.{listing_equiv};
 
 use mv_message::{Message, Product, Shared};
 use mv_pack::{Batch, Expiry};
-use std::alloc::AllocError;
 use std::marker::Model;
 
 /// Batches of a product, each with its expiry: a small type over `Vec`, which contracts see as a list.
 #[derive(Debug, Drop)]
 pub struct Pairs {
     /// The pairs, in order.
-    list: Vec<(Batch, Expiry)>,
+    pub(crate) list: Vec<(Batch, Expiry)>,
 }
 
 impl Model for Pairs {
@@ -41,15 +40,6 @@ impl Pairs {
         ensures { result.now ≡ self.now }
     {
         self.list.as_slice()
-    }
-
-    /// Puts a pair behind the others. Where memory is refused nothing has changed.
-    pub(crate) fn push(&mut self, batch: Batch, expiry: Expiry) -> Result<(), AllocError>
-        ensures ok { OnOk result (self.new ≡ self.old ++ (batch, expiry) ∷ []) }
-        ensures err { OnErr result (self.new ≡ self.old) }
-    {
-        self.list.push((batch, expiry))?;
-        Ok(())
     }
 }
 

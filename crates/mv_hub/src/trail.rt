@@ -6,9 +6,9 @@ ghost use Rattle.mv_hub.specs.Words.{BatchKey as ABatch, Entry as AnEntry};
 ghost use Rattle.mv_hub.specs.Tables.{linked_in};
 ghost use Rattle.mv_hub.specs.Kept.{AreTables};
 
+use crate::Entry;
 use crate::trail::batch_links::add_link;
 use crate::trail::catalogues::{Listed, note};
-use crate::{Entry, MasterProduct};
 use indexmap::IndexMap;
 use mv_message::Message;
 use mv_pack::{BatchKey, Gtin};
@@ -101,24 +101,13 @@ fn add_to_tables(
         return Ok(());
     };
     match message.get() {
-        Message::Master { gtin, .. } => {
-            let product = MasterProduct::new(Some(message.share()?));
-            note(alloc, catalogues, *gtin, product, None)?
-        }
-        Message::Upload {
-            gtin,
-            batch,
-            expiry,
-            ..
-        } => {
-            let listing = Some((batch.copy(), *expiry));
-            note(alloc, catalogues, *gtin, MasterProduct::new(None), listing)?
+        Message::Master { gtin, .. } | Message::Upload { gtin, .. } => {
+            note(alloc, catalogues, *gtin, message)
         }
         Message::Repack { before, after, .. } => {
-            add_link(alloc, batch_links, before.get(), after.get())?
+            add_link(alloc, batch_links, before.get(), after.get())
         }
         // No other message says anything of what a product is, of its batches or of links.
-        _ => {}
+        _ => Ok(()),
     }
-    Ok(())
 }

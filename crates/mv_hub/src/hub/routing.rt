@@ -129,7 +129,7 @@ fn shares_of(
     let count = parties.to_reach().as_slice().len();
     let mut shares = Vec::with_capacity(alloc, count)?;
     for _ in 0..count {
-        shares.push(message.share()?)?;
+        shares.push_reserved(message.share()?);
     }
     Ok(shares)
 }

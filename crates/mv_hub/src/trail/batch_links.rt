@@ -23,13 +23,8 @@ pub(super) fn add_link(
     ensures err { OnErr result ((other : ABatch) → linked_in links.new.entries other
         ≡ linked_in links.old.entries other) }
 {
-    if let Some(batches) = links.get_mut(before) {
-        return Ok(batches.push(after.copy())?);
-    }
-    let mut batches = Vec::new(alloc);
-    batches.push(after.copy())?;
-    links.insert(before.copy(), batches)?;
-    Ok(())
+    let batches = links.entry(before.copy())?.or_insert(Vec::new(alloc));
+    Ok(batches.push(after.copy())?)
 }
 
 impl AuditTrail {
@@ -56,25 +51,16 @@ impl AuditTrail {
         ensures { IfOk result (λ list.
             IsAscendingList list.items (IsDescendant self.now batch.now)) }
     {
-        let reached = self.reached(batch)?;
-        ascending(self.alloc, reached.as_slice())
-    }
-
-    /// The batches to which a chain of one or more links leads from a batch. Each is looked at once, in the order in which
-    /// it was reached.
-    fn reached(&self, batch: &BatchKey) -> Result<IndexSet<BatchKey>, AllocError>
-        ensures { IfOk result (λ reached. (other : ABatch)
-            → Contains reached.keys other ↔ IsDescendant self.now batch.now other) }
-    {
         let mut reached = IndexSet::new(self.alloc);
         add_all(&mut reached, self.links_of(batch))?;
+        // Each is looked at once, in the order in which it was reached.
         let mut next = 0usize;
         while next < reached.len() {
-            let current = reached.as_slice()[next].copy();
-            add_all(&mut reached, self.links_of(&current))?;
+            let links = self.links_of(&reached.as_slice()[next]);
+            add_all(&mut reached, links)?;
             next += 1;
         }
-        Ok(reached)
+        ascending(self.alloc, reached.as_slice())
     }
 }
 
@@ -92,7 +78,7 @@ fn add_all(set: &mut IndexSet<BatchKey>, batches: &[BatchKey]) -> Result<(), All
 fn ascending(alloc: Global, batches: &[BatchKey]) -> Result<Vec<BatchKey>, AllocError>
     ensures { IfOk result (λ list. IsAscendingList list.items (Contains batches.now)) }
 {
-    let mut list: Vec<BatchKey> = batches.iter().map(|batch| batch.copy()).collect(alloc)?;
+    let mut list: Vec<BatchKey> = batches.iter().map(BatchKey::copy).collect(alloc)?;
     list.sort_unstable();
     list.dedup();
     Ok(list)

@@ -1,24 +1,32 @@
 //! What the hub knows of each product, by the masters and uploads that it routed.
 
-ghost use Rattle.std.specs.Prelude.{◌≡◌, ℕ, List, None, Some, if◌then◌else◌, bytes_eq, OnOk, OnErr, unwrap_or};
+ghost use Rattle.std.specs.Prelude.{◌≡◌, None, Some, OnOk, OnErr};
 ghost use Rattle.std.specs.Option.{option_copied};
 ghost use Rattle.mv_hub.specs.Catalogue.{catalogue_of};
-ghost use Rattle.mv_hub.specs.Tables.{catalogue_in, no_catalogue, catalogue_after};
+ghost use Rattle.mv_hub.specs.Record.{product_of};
+ghost use Rattle.mv_hub.specs.Tables.{Notes, no_catalogue, catalogue_after, listing_of};
 
 use crate::trail::AuditTrail;
 use crate::{Catalogue, MasterProduct, Pairs};
 use indexmap::{IndexMap, IndexSet};
+use mv_message::{Message, Shared};
 use mv_pack::{Batch, Expiry, Gtin};
 use std::alloc::{AllocError, Global};
 use std::marker::Model;
 
 /// A catalogue, and its batches as a set.
-#[derive(Drop)]
 pub(super) struct Listed {
     /// What the hub shows of the product.
     catalogue: Catalogue,
     /// Its pairs once more, so that one is found without a walk.
     known: IndexSet<(Batch, Expiry)>,
+}
+
+// Written here, so that no function beside this one proves how its parts are dropped.
+impl Drop for Listed {
+    fn drop(self) {
+        let Self { catalogue, known } = self;
+    }
 }
 
 impl Model for Listed {
@@ -46,38 +54,37 @@ impl Listed {
         }
     }
 
-    /// Notes a master, if there is one, and a batch with its expiry, if there is one. Where memory is refused nothing has changed.
-    fn note(
-        &mut self,
-        product: MasterProduct,
-        listing: Option<(Batch, Expiry)>,
-    ) -> Result<(), AllocError>
-        ensures ok { OnOk result (self.new ≡ catalogue_after self.old product listing) }
+    /// Notes what a message says: a master its product, an upload its batch. Where memory is refused nothing has changed.
+    fn note(&mut self, message: &Shared<Message>) -> Result<(), AllocError>
+        ensures ok { OnOk result (self.new
+            ≡ catalogue_after self.old (product_of message.now) (listing_of message.now)) }
         ensures err { OnErr result (self.new ≡ self.old) }
     {
-        if let Some(listing) = listing {
-            self.add(listing)?;
-        }
-        if product.get().is_some() {
-            self.catalogue.product = product;
+        match message.get() {
+            Message::Master { .. } => {
+                self.catalogue.product = MasterProduct::new(Some(message.share()?));
+            }
+            Message::Upload { batch, expiry, .. } => self.add(batch, *expiry)?,
+            _ => {}
         }
         Ok(())
     }
 
     /// Puts a batch and its expiry behind the others, unless they are there. Where memory is refused nothing has changed.
-    fn add(&mut self, listing: (Batch, Expiry)) -> Result<(), AllocError>
-        ensures ok { OnOk result (self.new ≡ catalogue_after self.old None (Some listing)) }
+    fn add(&mut self, batch: &Batch, expiry: Expiry) -> Result<(), AllocError>
+        ensures ok { OnOk result (self.new
+            ≡ catalogue_after self.old None (Some (batch.now, expiry))) }
         ensures err { OnErr result (self.new ≡ self.old) }
     {
+        let listing = (batch.copy(), expiry);
         if self.known.contains(&listing) {
             return Ok(());
         }
-        self.known.reserve(1)?;
-        self.catalogue.batches.push(listing.0.copy(), listing.1)?;
+        self.catalogue.batches.list.reserve(1)?;
+        self.known.insert(listing)?;
         // Nothing fails from here on.
-        let Ok(_) = self.known.insert(listing) else {
-            unreachable!()
-        };
+        let pair = (batch.copy(), expiry);
+        self.catalogue.batches.list.push_reserved(pair);
         Ok(())
     }
 }
@@ -91,27 +98,23 @@ impl AuditTrail {
     }
 }
 
-/// Notes a master of a product, if there is one, and a batch of it with its expiry, if there is one. Where memory is refused nothing
-/// has changed.
+/// Notes what a message says of a product: a master its description, an upload a batch of it. Where memory is refused nothing has
+/// changed.
 pub(super) fn note(
     alloc: Global,
     catalogues: &mut IndexMap<Gtin, Listed>,
     gtin: Gtin,
-    product: MasterProduct,
-    listing: Option<(Batch, Expiry)>,
+    message: &Shared<Message>,
 ) -> Result<(), AllocError>
-    ensures ok { OnOk result ((other : List ℕ) → catalogue_in catalogues.new.entries other
-        ≡ (if bytes_eq gtin other
-        then Some (catalogue_after (unwrap_or (catalogue_in catalogues.old.entries gtin) no_catalogue)
-        product listing)
-        else catalogue_in catalogues.old.entries other)) }
+    ensures ok { OnOk result
+        (Notes catalogues.old.entries catalogues.new.entries gtin message.now) }
     ensures err { OnErr result (catalogues.new.entries ≡ catalogues.old.entries) }
 {
     if let Some(listed) = catalogues.get_mut(&gtin) {
-        return listed.note(product, listing);
+        return listed.note(message);
     }
     let mut listed = Listed::new(alloc);
-    listed.note(product, listing)?;
+    listed.note(message)?;
     catalogues.insert(gtin, listed)?;
     Ok(())
 }

@@ -1,11 +1,24 @@
-use Rattle.std.proofs.Common.{Contains}
+use Rattle.std.proofs.Common.{Contains, arith, sym}
 use Rattle.std.proofs.lemmas.Result.{IfOk-weaker}
-use Rattle.mv_hub.specs.BatchLinks.{IsAscendingList, IsDescendant}
+use Rattle.mv_hub.specs.BatchLinks.{IsAscendingList, IsDescendant, linked_to}
 use Rattle.mv_hub.proofs.ListingLemmas.{listed-same}
+use Rattle.mv_hub.proofs.SearchLemmas.{searching_start, searching_more, searching_end}
 use Rattle.mv_hub.proofs.trail.AuditTrail.descendants.Goals as goal
+
+pub loop-next-init : goal.loop-next-init
+loop-next-init c =
+    searching_start (linked_to c.args.self.now) c.args.batch.now _ (rw (c.new-reached.ensures.empty, c.links_of.ensures) at c.in_ok-add_all.ensures)
+
+pub loop-next-preserved : goal.loop-next-preserved
+loop-next-preserved c =
+    searching_more (linked_to c.args.self.now) c.args.batch.now _ _ _ c.index-as_slice-next.result c.loop-next.invariant
+    (omega (arith, c.len.ensures.len, c.loop-next-test.true)) (sym (rw c.as_slice.ensures.keys at c.index-as_slice-next.is))
+    (rw c.links_of-links.ensures at c.in_ok-add_all-2.ensures)
 
 pub returns : goal.returns
 returns c =
-    IfOk-weaker c.ascending.result (λ list. IsAscendingList list.items (Contains c.in_ok-reached.reached.keys))
+    let all = searching_end (linked_to c.args.self.now) c.args.batch.now c.loop-next.next c.loop-next.reached.keys c.loop-next.invariant
+    (omega (arith, c.len.ensures.len, c.loop-next-test.false)) in
+    IfOk-weaker c.ascending.result (λ list. IsAscendingList list.items (Contains c.loop-next.reached.keys))
     (λ list. IsAscendingList list.items (IsDescendant c.args.self.now c.args.batch.now))
-    (λ list. listed-same c.in_ok-reached.ensures) (rw c.as_slice.ensures.keys at c.ascending.ensures)
+    (λ list. listed-same all) (rw c.as_slice-2.ensures.keys at c.ascending.ensures)

@@ -1,7 +1,7 @@
 use Rattle.std.proofs.Common.{◌-◌}
 use Rattle.mv_hub.specs.BatchLinks.{linked_to}
 use Rattle.mv_hub.proofs.SearchLemmas.{IsSearching}
-use Rattle.mv_hub.proofs.trail.AuditTrail.reached.Given as goal
+use Rattle.mv_hub.proofs.trail.AuditTrail.descendants.Given as goal
 
 abbrev pub invariant-loop-next : goal.invariant-loop-next
 invariant-loop-next l = IsSearching (linked_to l.self) l.batch l.next l.reached.keys

@@ -42,8 +42,7 @@ fn with_taking<'a>(
     ensures { (rule : Rule) → rule_of arg.entry ≡ rule
         → IfOk result (λ new. app_of new ≡ with_subcommand (app_of line.entry) (with_rule (new_app name.entry.now) rule).top) }
 {
-    let command = taking(alloc, name, help, arg)?;
-    line.subcommand(command)
+    line.subcommand(told(alloc, name, help).arg(arg)?)
 }
 
 /// The program, with no subcommand yet.
@@ -65,21 +64,6 @@ fn told<'a>(alloc: Global, name: &'a str, help: Help) -> Command<'a>
     Command::new(alloc, name)
         .about(help.about)
         .after_help(help.below)
-}
-
-/// A command of this name that takes an argument.
-fn taking<'a>(
-    alloc: Global,
-    name: &'a str,
-    help: Help,
-    arg: Arg<'a>,
-) -> Result<Command<'a>, AllocError>
-    requires { arg.global ≡ false }
-    ensures shape { (rule : Rule) → rule_of arg.entry ≡ rule
-        → IfOk result (λ command. shape_of command ≡ (with_rule (new_app name.entry.now) rule).top) }
-    ensures local { IfOk result (λ command. (fields_of command).has_globals ≡ false) }
-{
-    told(alloc, name, help).arg(arg)
 }
 
 /// An option that is given or not, with no value.

@@ -71,41 +71,19 @@ pub fn task_of<'a>(alloc: Global, words: &'a [String]) -> Result<Option<Task<'a>
         (λ task. task ≡ Some asked) (λ error. kind_of error ≡ OutOfMemory) }
     ensures taken { FailsBy (fault_of command_line (map string_bytes words.now)) result }
 {
-    let matches = matches_of(alloc, words)?;
-    Ok(task_named(alloc, &matches)?)
-}
-
-/// What the command line finds in the words.
-fn matches_of<'a>(alloc: Global, words: &'a [String]) -> Result<ArgMatches<'a>, Error>
-    ensures named { fault_of command_line (map string_bytes words.now) ≡ [] → MatchResult result
-        (λ matches. subcommand_rows_of matches ≡ subcommand_of command_line (map string_bytes words.now))
-        (λ error. kind_of error ≡ OutOfMemory) }
-    ensures taken { FailsBy (fault_of command_line (map string_bytes words.now)) result }
-{
-    command_line(alloc)?.try_get_matches_from(words)
+    let matches = command_line(alloc)?.try_get_matches_from(words)?;
+    Ok(task_found(alloc, &matches)?)
 }
 
 /// The task of the subcommand that was found.
-fn task_named<'a>(alloc: Global, matches: &ArgMatches<'a>) -> Result<Option<Task<'a>>, AllocError>
+fn task_found<'a>(alloc: Global, matches: &ArgMatches<'a>) -> Result<Option<Task<'a>>, AllocError>
     ensures { (asked : Asked) (name : List ℕ) (rows : List Row)
         → subcommand_rows_of matches.now ≡ Some (name, rows) → IsFor asked name rows
         → IfOk result (λ task. task ≡ Some asked) }
 {
-    match matches.subcommand() {
-        Some((name, given)) => task_by(alloc, name, given),
-        None => Ok(None),
-    }
-}
-
-/// The task of a subcommand of this name with these matches.
-fn task_by<'a>(
-    alloc: Global,
-    name: &str,
-    given: &ArgMatches<'a>,
-) -> Result<Option<Task<'a>>, AllocError>
-    ensures { (asked : Asked) → IsFor asked name.now (rows_of (found_of given.now))
-        → IfOk result (λ task. task ≡ Some asked) }
-{
+    let Some((name, given)) = matches.subcommand() else {
+        return Ok(None);
+    };
     match name {
         "steps" if is_given(given, "strict") => Ok(Some(Task::Strict)),
         "steps" => Ok(Some(Task::Steps)),

@@ -17,7 +17,10 @@ pub fn put_out<W: Write>(writer: &mut W, bytes: &[u8]) -> Result<(), ServeFault>
         return Ok(());
     }
     write_whole(writer, bytes)?;
-    writer.flush().map_err(|_| ServeFault::Write)
+    match writer.flush() {
+        Ok(()) => Ok(()),
+        Err(_) => Err(ServeFault::Write),
+    }
 }
 
 /// Writes all of the bytes. The loop is its own, since the library's writes again after an interruption.

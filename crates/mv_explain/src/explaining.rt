@@ -22,9 +22,12 @@ pub fn explain<'a>(alloc: Global, words: &[&'a str]) -> Result<String, ExplainFa
         string_bytes text ≡ lines_of (map (λ word. word.now) words.now)) }
     ensures err { IfErr result (λ fault. Faults fault (map (λ word. word.now) words.now)) }
 {
-    match unknown_in(words) {
-        Some(word) => Err(ExplainFault::NoCode(word)),
-        None => lines(alloc, words).map_err(|_| ExplainFault::Memory),
+    if let Some(word) = unknown_in(words) {
+        return Err(ExplainFault::NoCode(word));
+    }
+    match lines(alloc, words) {
+        Ok(text) => Ok(text),
+        Err(_) => Err(ExplainFault::Memory),
     }
 }
 

@@ -25,10 +25,13 @@ pub fn explain<'a>(alloc: Global, words: &[&'a str]) -> Result<String, ExplainFa
     if let Some(word) = unknown_in(words) {
         return Err(ExplainFault::NoCode(word));
     }
-    match lines(alloc, words) {
-        Ok(text) => Ok(text),
-        Err(_) => Err(ExplainFault::Memory),
+    let mut text = String::new(alloc);
+    for word in words {
+        if push_line(&mut text, word).is_err() {
+            return Err(ExplainFault::Memory);
+        }
     }
+    Ok(text)
 }
 
 /// The first of these words that is no code.
@@ -43,17 +46,6 @@ fn unknown_in<'a>(mut words: &[&'a str]) -> Option<&'a str>
         words = rest;
     }
     None
-}
-
-/// The lines of these words.
-fn lines(alloc: Global, words: &[&str]) -> Result<String, AllocError>
-    ensures { IfOk result (λ text. string_bytes text ≡ lines_of (map (λ word. word.now) words.now)) }
-{
-    let mut text = String::new(alloc);
-    for word in words {
-        push_line(&mut text, word)?;
-    }
-    Ok(text)
 }
 
 /// Adds the line of a word.

@@ -1,6 +1,6 @@
 use Rattle.std.proofs.Common.{◌≡◌, string_bytes, map, take}
 use Rattle.mv_explain.specs.Explained.{lines_of}
-use Rattle.mv_explain.proofs.explaining.lines.Given as goal
+use Rattle.mv_explain.proofs.explaining.explain.Given as goal
 
 -- the lines of the words that were passed are written
 abbrev pub invariant-loop-word : goal.invariant-loop-word

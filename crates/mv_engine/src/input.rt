@@ -94,8 +94,7 @@ impl Input {
             self.take_line(answering, &rest[..end])?;
             rest = &rest[end + 1..];
         }
-        self.take_part(rest)?;
-        Ok(())
+        self.take_part(rest)
     }
 
     /// Takes what is left of a line, but for its line feed, and answers the line.

@@ -1,5 +1,6 @@
-use Rattle.std.proofs.Common.{refl, [], append_assoc, append-nil}
-use Rattle.mv_engine.proofs.Words.{err_from_is_err_and}
+use Rattle.std.proofs.Common.{◌≡◌, ◌++◌, refl, [], append_assoc, append-nil}
+use Rattle.std.proofs.lemmas.Result.{on_ok_weaker}
+use Rattle.mv_engine.proofs.Words.{IfErr-weaker, err_from_is_err_and}
 use Rattle.mv_engine.proofs.PartLemmas.{cut_line, absent_unended}
 use Rattle.mv_engine.proofs.InputLemmas.{none_added, part_taken, stopped_in, grown_stopped, grown_taken}
 use Rattle.mv_engine.proofs.input.Input.take_all.Goals as goal
@@ -21,14 +22,14 @@ loop-end-preserved g c =
 -- the rest is taken
 pub returns-clause-ok : goal.returns-clause-ok
 returns-clause-ok g c =
-    let part = part_taken g.S.Answering.replies _ _ _ _ _ _ (absent_unended _ c.in_default.ensures) c.loop-end.self.few c.in_ok-take_part.ensures.ok c.in_ok-take_part.ensures.lines in
-    rw c.loop-end.invariant.1
-    (grown_taken g.S.Answering.replies _ _ _ (c.loop-end.invariant.2, c.loop-end.invariant.3, c.loop-end.invariant.4) ([], none_added _ _ c.in_ok-take_part.ensures.replies, part))
+    rw c.loop-end.invariant.1 (on_ok_weaker c.take_part.result (λ (took : c.take_part.new.self.begun.items ≡ c.loop-end.self.begun.items ++ c.loop-end.rest.now).
+    let part = part_taken g.S.Answering.replies _ _ _ _ _ _ (absent_unended _ c.in_default.ensures) c.loop-end.self.few took c.take_part.ensures.lines in
+    grown_taken g.S.Answering.replies _ _ _ (c.loop-end.invariant.2, c.loop-end.invariant.3, c.loop-end.invariant.4) ([], none_added _ _ c.take_part.ensures.replies, part)) c.take_part.ensures.ok)
 
 -- the rest stopped it
-pub returns-in_err-take_part-clause-err : goal.returns-in_err-take_part-clause-err
-returns-in_err-take_part-clause-err g c =
-    let p = err_from_is_err_and c.from_residual-in_err-take_part.result c.from_residual-in_err-take_part.ensures.1 in
-    let part = stopped_in g.S.Answering.replies _ _ _ [] _ _ (absent_unended _ c.in_default.ensures) c.loop-end.self.few c.in_err-take_part.ensures.err in
-    rw (p.1, p.2) (grown_stopped g.S.Answering.replies _ _ _ _ [] (simp append-nil c.loop-end.invariant.1) c.loop-end.invariant.3 c.loop-end.invariant.4
-    ([], none_added _ _ c.in_err-take_part.ensures.replies, part))
+pub returns-clause-err : goal.returns-clause-err
+returns-clause-err g c =
+    IfErr-weaker c.take_part.result _ _ (λ fault stops.
+    let part = stopped_in g.S.Answering.replies _ _ _ [] _ _ (absent_unended _ c.in_default.ensures) c.loop-end.self.few stops in
+    grown_stopped g.S.Answering.replies _ _ _ _ [] (simp append-nil c.loop-end.invariant.1) c.loop-end.invariant.3 c.loop-end.invariant.4
+    ([], none_added _ _ c.take_part.ensures.replies, part)) c.take_part.ensures.err

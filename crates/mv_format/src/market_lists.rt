@@ -66,16 +66,17 @@ fn are_text_lists(list: &[Value]) -> bool
 fn is_text_list(value: &Value) -> bool
     ensures { result ≡ is_some (as_list as_str (view value.now)) }
 {
-    value
-        .as_array()
-        .is_some_and(|list| are_texts(list.as_slice()))
+    match value.as_array() {
+        Some(list) => are_texts(list.as_slice()),
+        None => false,
+    }
 }
 
 /// Whether all values are texts.
 fn are_texts(list: &[Value]) -> bool
     ensures { result ≡ list_all (λ value. is_some (as_str (view value))) list.now }
 {
-    list.iter().all(|value| value.is_string())
+    list.iter().all(Value::is_string)
 }
 
 /// The lists of markets, or the fault of the first bad one.
@@ -115,5 +116,8 @@ fn market_in(value: &Value, field: LineField) -> Result<Market, LineFault>
     ensures { result ≡ market_item field (view value.now) }
 {
     let text = value.as_str().ok_or(LineFault::Kind(field))?;
-    Market::read(text).map_err(|fault| LineFault::Pack(field, fault))
+    match Market::read(text) {
+        Ok(market) => Ok(market),
+        Err(fault) => Err(LineFault::Pack(field, fault)),
+    }
 }

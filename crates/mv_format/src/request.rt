@@ -49,14 +49,11 @@ impl Request {
     pub fn read(alloc: Global, line: &[u8]) -> Result<Request, LineFault>
         ensures { GivesOr result (read_line line.now) LineFault.Memory }
     {
-        let value = Value::from_slice(alloc, line).map_err(|error| {
-            if error.is_memory() {
-                LineFault::Memory
-            } else {
-                LineFault::NotJson
-            }
-        })?;
-        Request::from_value(alloc, &value)
+        match Value::from_slice(alloc, line) {
+            Ok(value) => Request::from_value(alloc, &value),
+            Err(error) if error.is_memory() => Err(LineFault::Memory),
+            Err(_) => Err(LineFault::NotJson),
+        }
     }
 
     /// Reads a line as `read` does, in memory that is kept from line to line: what asks a step by its tokens, and what these

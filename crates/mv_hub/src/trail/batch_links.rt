@@ -10,7 +10,7 @@ use indexmap::{IndexMap, IndexSet};
 use mv_pack::BatchKey;
 use std::alloc::{AllocError, Global};
 
-/// A batch is linked to another from now on. Where memory is refused nothing has changed.
+/// A batch is linked to another from now on. Where memory is refused no link has changed.
 pub(super) fn add_link(
     alloc: Global,
     links: &mut IndexMap<BatchKey, Vec<BatchKey>>,

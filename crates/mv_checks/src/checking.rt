@@ -36,10 +36,10 @@ impl Answering for Checker {
     ghost replies = { IsChecked };
 
     fn answer(&mut self, number: u32, line: &[u8], out: &mut Vec<u8>) -> Result<bool, AllocError> {
-        match mv_json::read_in(self.alloc, &mut self.scratch, line) {
-            Ok(_) => Ok(false),
-            Err(MessageFault::Memory) => Err(AllocError),
-            Err(fault) => {
+        match mv_json::read_in(self.alloc, &mut self.scratch, line).err() {
+            None => Ok(false),
+            Some(MessageFault::Memory) => Err(AllocError),
+            Some(fault) => {
                 append_refusal(self.alloc, out, &fault, Some(number))?;
                 self.all_messages = false;
                 Ok(true)

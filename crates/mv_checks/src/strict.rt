@@ -1,6 +1,6 @@
 //! Runs steps, and counts the lines that were not taken.
 
-ghost use Rattle.std.specs.Prelude.{◌≡◌, ℕ, List, None, OnOk, IfErr, IfSome};
+ghost use Rattle.std.specs.Prelude.{◌≡◌, ℕ, List, None, Some, OnOk, IfErr, IfSome, if◌then◌else◌};
 ghost use Rattle.std.specs.Io.KnownBytes.{Consumes};
 ghost use Rattle.mv_engine.specs.Served.{Served, Ended, EndedAt};
 ghost use Rattle.mv_lines.specs.Sessions.{Open, IsReply};
@@ -56,27 +56,27 @@ impl Answering for Counted {
 
     fn answer(&mut self, number: u32, line: &[u8], out: &mut Vec<u8>) -> Result<bool, AllocError> {
         let answered = self.session.take(line)?;
-        if answered.is_refused() {
-            self.untaken = Some(tallied(self.untaken, number));
-        }
-        append_json(self.alloc, out, &answered)?;
-        Ok(true)
+        self.untaken = tally(self.untaken, number, answered.is_refused());
+        append_json(self.alloc, out, &answered).and(Ok(true))
     }
 }
 
-/// The lines that were not taken, with one more.
-fn tallied(untaken: Option<Untaken>, number: u32) -> Untaken
-    ensures { result ≡ tallied number untaken }
+/// The lines that were not taken, with this one where it was refused.
+fn tally(untaken: Option<Untaken>, number: u32, is_refused: bool) -> Option<Untaken>
+    ensures { result ≡ (if is_refused then Some (tallied number untaken) else untaken) }
 {
+    if !is_refused {
+        return untaken;
+    }
     match untaken {
-        None => Untaken {
+        None => Some(Untaken {
             count: 1,
             first: number,
-        },
-        Some(untaken) => Untaken {
+        }),
+        Some(untaken) => Some(Untaken {
             count: untaken.count.saturating_add(1),
             first: untaken.first,
-        },
+        }),
     }
 }
 

@@ -70,7 +70,7 @@ submitted_kept {hub = hub} party message full site new k view there full_is read
     rw (ok, here) (changed (submitted party message (ltb-true party (length hub.parties) (rw (← view) at there)) none (rw (here, full_is, ← view) at free)) k k.are_wires)
 
 -- a wire that is not full has room
-pub wire_room : {st : State} {wires : List (List WireState)} → IsSystem st wires → (from to : ℕ) (full : Bool) → full ≡ is_wire_full st from to → IsTrue (not full)
+pub wire_room : {st : State} {wires : List (List WireState)} → IsSystem st wires → (from to : ℕ) (full : Bool) → full ≡ is_wire_full st from to → full ≡ false
     → (is_wire_full st from to ≡ false) × (length (wire_of st from to) < st.limits.wire)
 wire_room h1 from to full h2 h3 = grind arith
 

@@ -1,7 +1,7 @@
 //! The steps: each asks what it needs, and makes one change. Only these open the fields of the system to write.
 #![tactic(auto, unfolding(mv_machine::specs::Runs::Allows, mv_machine::specs::Runs::Meets, mv_machine::specs::Steps::ask, mv_machine::specs::Steps::outcome, mv_hub::specs::Hub::route_fault))]
 
-ghost use Rattle.std.specs.Prelude.{◌≡◌, IsTrue, IfErr, OnOk, OnErr, false};
+ghost use Rattle.std.specs.Prelude.{◌≡◌};
 ghost use Rattle.mv_machine.specs.Runs.{Meets, Allows};
 ghost use Rattle.mv_machine.specs.Steps.{ask};
 ghost use Rattle.mv_system.specs.World.{reply_of};
@@ -35,7 +35,9 @@ impl World {
     fn submit(&mut self, from: Party, message: &Shared<Message>) -> Result<Reply, Refusal>
         ensures { Allows self.old (Step.Submit from message.now) (reply_of result) self.new }
     {
-        need(self.is_party(from), Refusal::Party)?;
+        if !self.is_party(from) {
+            return Err(Refusal::Party);
+        }
         let uplink_full = self.is_uplink_full(from);
         let site = &mut self.sites[from as usize];
         let k = site.submit(message, uplink_full)?;
@@ -46,7 +48,9 @@ impl World {
     fn verify(&mut self, party: Party, key: &PackKey) -> Result<Reply, Refusal>
         ensures { Allows self.old (Step.Verify party key.now) (reply_of result) self.new }
     {
-        need(self.is_party(party), Refusal::Party)?;
+        if !self.is_party(party) {
+            return Err(Refusal::Party);
+        }
         match self.repository(party).verify(key) {
             Local::Known(verdict) => Ok(Reply::Known(verdict)),
             Local::Absent => self.take_query(party, key),
@@ -57,7 +61,9 @@ impl World {
     pub(super) fn take_query(&mut self, party: Party, key: &PackKey) -> Result<Reply, Refusal>
         ensures { Meets self.old (ask self.old party key.now) (reply_of result) self.new }
     {
-        need(self.is_party(party), Refusal::Party)?;
+        if !self.is_party(party) {
+            return Err(Refusal::Party);
+        }
         let uplink_full = self.is_uplink_full(party);
         let site = &mut self.sites[party as usize];
         let q = site.ask(key, uplink_full)?;
@@ -68,7 +74,9 @@ impl World {
     fn route(&mut self, from: Party) -> Result<Reply, Refusal>
         ensures { Allows self.old (Step.Route from) (reply_of result) self.new }
     {
-        need(self.is_party(from), Refusal::Party)?;
+        if !self.is_party(from) {
+            return Err(Refusal::Party);
+        }
         let place = self.hub.routed_count(from) as usize;
         let site = &self.sites[from as usize];
         let Some(message) = site.submission(place) else {
@@ -82,12 +90,16 @@ impl World {
     fn relay(&mut self, from: Party, to: Party) -> Result<Reply, Refusal>
         ensures { Allows self.old (Step.Relay from to) (reply_of result) self.new }
     {
-        need(self.are_parties(from, to), Refusal::Party)?;
-        need(!self.is_wire_full(from, to), Refusal::WireFull)?;
+        if !self.are_parties(from, to) {
+            return Err(Refusal::Party);
+        }
+        if self.is_wire_full(from, to) {
+            return Err(Refusal::WireFull);
+        }
         let frame = self.hub.relay(from, to)?;
         let number = frame.number;
         let wire = self.wires.at_mut(from, to);
-        let _ = wire.push_back(frame);
+        drop(wire.push_back(frame));
         Ok(Reply::Relayed { number })
     }
 
@@ -95,7 +107,9 @@ impl World {
     fn apply(&mut self, from: Party, to: Party) -> Result<Reply, Refusal>
         ensures { Allows self.old (Step.Apply from to) (reply_of result) self.new }
     {
-        need(self.are_parties(from, to), Refusal::Party)?;
+        if !self.are_parties(from, to) {
+            return Err(Refusal::Party);
+        }
         let uplink_full = self.is_uplink_full(to);
         let Some(frame) = self.wires.at(from, to).front() else {
             return Err(Refusal::WireEmpty);
@@ -104,7 +118,7 @@ impl World {
         let site = &mut self.sites[to as usize];
         let taken = site.apply(from, frame, uplink_full)?;
         let under_way = self.wires.at_mut(from, to);
-        let _ = under_way.pop_front();
+        drop(under_way.pop_front());
         Ok(Reply::of_taken(number, taken))
     }
 
@@ -112,11 +126,15 @@ impl World {
     fn repeat(&mut self, from: Party, to: Party, number: u32) -> Result<Reply, Refusal>
         ensures { Allows self.old (Step.Repeat from to number) (reply_of result) self.new }
     {
-        need(self.are_parties(from, to), Refusal::Party)?;
-        need(!self.is_wire_full(from, to), Refusal::WireFull)?;
+        if !self.are_parties(from, to) {
+            return Err(Refusal::Party);
+        }
+        if self.is_wire_full(from, to) {
+            return Err(Refusal::WireFull);
+        }
         let frame = self.hub.repeat(from, to, number)?;
         let wire = self.wires.at_mut(from, to);
-        let _ = wire.push_back(frame);
+        drop(wire.push_back(frame));
         Ok(Reply::Repeated { number })
     }
 
@@ -132,12 +150,14 @@ impl World {
     fn lose(&mut self, from: Party, to: Party) -> Result<Reply, Refusal>
         ensures { Allows self.old (Step.Lose from to) (reply_of result) self.new }
     {
-        need(self.are_parties(from, to), Refusal::Party)?;
+        if !self.are_parties(from, to) {
+            return Err(Refusal::Party);
+        }
         match self.frame_number(from, to, 0) {
             None => Err(Refusal::WireEmpty),
             Some(number) => {
                 let wire = self.wires.at_mut(from, to);
-                let _ = wire.pop_front();
+                drop(wire.pop_front());
                 Ok(Reply::Lost { number })
             }
         }
@@ -147,18 +167,11 @@ impl World {
     fn verdict(&mut self, party: Party, q: u32) -> Result<Reply, Refusal>
         ensures { Allows self.old (Step.Verdict party q) (reply_of result) self.new }
     {
-        need(self.is_party(party), Refusal::Party)?;
+        if !self.is_party(party) {
+            return Err(Refusal::Party);
+        }
         Ok(Reply::Joint(self.repository(party).verdict(q)))
     }
-}
-
-/// Whether this holds that a step needs; the refusal is that of the step.
-fn need(holds: bool, refusal: Refusal) -> Result<(), Refusal>
-    ensures ok { OnOk result (IsTrue holds) }
-    ensures err { OnErr result (holds ≡ false) }
-    ensures refusal { IfErr result (λ fault. fault ≡ refusal) }
-{
-    if holds { Ok(()) } else { Err(refusal) }
 }
 
 /// The reply that tells what a step did, or why it was refused.

@@ -15,7 +15,7 @@ taken c =
     let k = c.self.invariant in
     let frame = c.in-Some.frame.now in
     let site = c.index_mut-site.result.now in
-    let both = rw (c.are_parties.ensures, ← c.self.view_is) at c.in_ok-need.ensures.ok in
+    let both = rw (c.are_parties.ensures, ← c.self.view_is) at c.if-not-are_parties.false in
     let here = site_read to site k (and_parts _ _ both).1 c.index_mut-site.ensures.value in
     let front = sym c.front.ensures ∙ ap option_copied c.in-Some.is in
     let dropped = front_dropped k.are_wires from to both c.at_mut-under_way.result.now c.at_mut-under_way.ensures.value c.pop_front.new.self c.pop_front.ensures.items in
@@ -33,7 +33,7 @@ returns c = (taken c).0
 
 pub returns-in_default : goal.returns-in_default
 returns-in_default c =
-    let both = rw (c.are_parties.ensures, ← c.self.view_is) at c.in_ok-need.ensures.ok in
+    let both = rw (c.are_parties.ensures, ← c.self.view_is) at c.if-not-are_parties.false in
     let empty = sym c.front.ensures ∙ ap option_copied c.in_default.is in
     rw (← c.self.view_is) (apply_empty _ c.args.from c.args.to both (front_seen c.self.invariant.are_wires c.args.from c.args.to both c.at.result.now c.at.ensures None empty))
 
@@ -44,10 +44,10 @@ returns-in_err-taken c =
     let k = c.self.invariant in
     let frame = c.in-Some.frame.now in
     let site = c.index_mut-site.result.now in
-    let both = rw (c.are_parties.ensures, ← c.self.view_is) at c.in_ok-need.ensures.ok in
+    let both = rw (c.are_parties.ensures, ← c.self.view_is) at c.if-not-are_parties.false in
     let here = site_read to site k (and_parts _ _ both).1 c.index_mut-site.ensures.value in
     let front = sym c.front.ensures ∙ ap option_copied c.in-Some.is in
-    let refused = err_from_is_err_and c.from_residual-in_err-taken.result c.from_residual-in_err-taken.ensures.1 in
+    let refused = err_from_is_err_and c.from_residual.result c.from_residual.ensures.1 in
     rw (← c.self.view_is, refused.1, refused.2, c.in_err-taken.ensures.err, site_back c.self.inside.sites.items to site c.index_mut-site.ensures.value)
     (apply_refused _ from to frame.number frame.item (look_at (count_from site.log from) frame.number) c.is_uplink_full-uplink_full.result site c.in_err-taken.field-0.0 both
     (front_seen k.are_wires from to both c.at.result.now c.at.ensures (Some frame) front) (front_item k.are_wires from to both c.at.result.now c.at.ensures frame front)

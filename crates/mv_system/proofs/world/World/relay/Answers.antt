@@ -2,16 +2,16 @@ use Rattle.mv_system.proofs.Words.{Relay, Relayed, put}
 use Rattle.mv_system.proofs.SystemLemmas.{Leaves, frame_pushed, left, wire_room, wires_relayed}
 use Rattle.mv_system.proofs.RowLemmas.{relay_done}
 use Rattle.mv_system.proofs.world.World.relay.Goals as goal
-use Rattle.mv_system.proofs.world.World.relay.Goals.{Joined-push_back}
+use Rattle.mv_system.proofs.world.World.relay.Goals.{After-drop}
 
-relayed : (c : Joined-push_back) → let a = c.self.inside in
+relayed : (c : After-drop) → let a = c.self.inside in
     Leaves c.args.self.now (Relay c.args.from c.args.to) (Relayed c.in_ok-frame.frame.number) a.limits c.relay.new.self a.sites.items (put a.wires c.args.from c.args.to c.push_back.new.self)
 relayed c =
     let from = c.args.from in
     let to = c.args.to in
     let frame = c.in_ok-frame in
-    let both = rw (c.are_parties.ensures, ← c.self.view_is) at c.in_ok-need.ensures.ok in
-    let room = wire_room c.self.invariant from to c.is_wire_full.result (rw (← c.self.view_is) at c.is_wire_full.ensures) c.in_ok-need-2.ensures.ok in
+    let both = rw (c.are_parties.ensures, ← c.self.view_is) at c.if-not-are_parties.false in
+    let room = wire_room c.self.invariant from to c.is_wire_full.result (rw (← c.self.view_is) at c.is_wire_full.ensures) c.if-is_wire_full.false in
     let pushed = frame_pushed c.self.invariant.are_wires from to both c.at_mut-wire.result.now c.at_mut-wire.ensures.value frame.frame c.push_back.new.self
     c.push_back.ensures.items frame.ensures.frame room.1 in
     left (Relay from to) (Relayed frame.frame.number) c.self.view_is c.self.invariant

@@ -2,16 +2,16 @@ use Rattle.mv_system.proofs.Words.{Repeat, Repeated, put}
 use Rattle.mv_system.proofs.SystemLemmas.{Leaves, frame_pushed, left, wire_room}
 use Rattle.mv_system.proofs.RowLemmas.{repeat_done}
 use Rattle.mv_system.proofs.world.World.repeat.Goals as goal
-use Rattle.mv_system.proofs.world.World.repeat.Goals.{Joined-push_back}
+use Rattle.mv_system.proofs.world.World.repeat.Goals.{After-drop}
 
-repeated : (c : Joined-push_back) → let a = c.self.inside in
+repeated : (c : After-drop) → let a = c.self.inside in
     Leaves c.args.self.now (Repeat c.args.from c.args.to c.args.number) (Repeated c.args.number) a.limits a.hub a.sites.items (put a.wires c.args.from c.args.to c.push_back.new.self)
 repeated c =
     let from = c.args.from in
     let to = c.args.to in
     let frame = c.in_ok-frame in
-    let both = rw (c.are_parties.ensures, ← c.self.view_is) at c.in_ok-need.ensures.ok in
-    let room = wire_room c.self.invariant from to c.is_wire_full.result (rw (← c.self.view_is) at c.is_wire_full.ensures) c.in_ok-need-2.ensures.ok in
+    let both = rw (c.are_parties.ensures, ← c.self.view_is) at c.if-not-are_parties.false in
+    let room = wire_room c.self.invariant from to c.is_wire_full.result (rw (← c.self.view_is) at c.is_wire_full.ensures) c.if-is_wire_full.false in
     let pushed = frame_pushed c.self.invariant.are_wires from to both c.at_mut-wire.result.now c.at_mut-wire.ensures.value frame.frame c.push_back.new.self
     c.push_back.ensures.items frame.ensures.frame room.1 in
     left (Repeat from to c.args.number) (Repeated c.args.number) c.self.view_is c.self.invariant

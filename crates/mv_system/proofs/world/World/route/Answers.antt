@@ -12,7 +12,7 @@ invariant_of-self-2 c =
     let from = c.args.from in
     let message = c.in-Some.message.now in
     let site = c.index-site.result.now in
-    let party = rw (c.is_party.ensures, ← c.self.view_is) at c.in_ok-need.ensures.ok in
+    let party = rw (c.is_party.ensures, ← c.self.view_is) at c.if-not-is_party.false in
     let here = site_read from site c.self.invariant party c.index-site.ensures in
     let waits = ap (λ (s : SiteState). slice_get s.submissions (routed_count hub.entries from)) (sym here)
     ∙ ap (slice_get site.submissions) (sym c.routed_count-place.ensures.value) ∙ sym c.submission.ensures ∙ ap option_copied c.in-Some.is in

@@ -8,5 +8,5 @@ invariant_of-self-2 c =
     let full = c.is_uplink_full-uplink_full.result in
     let site = c.index_mut-site.result.now in
     let free = submit-free full site message c.in_ok-k.ensures.fault in
-    submitted_kept c.args.from message full site c.submit.new.self c.self.invariant c.self.view_is (rw c.is_party.ensures at c.in_ok-need.ensures.ok)
+    submitted_kept c.args.from message full site c.submit.new.self c.self.invariant c.self.view_is (rw c.is_party.ensures at c.if-not-is_party.false)
     c.is_uplink_full-uplink_full.ensures c.index_mut-site.ensures.value c.in_ok-k.ensures.ok (no_answer message free.0) free.1

@@ -1,6 +1,6 @@
 //! The lines that tell of the links.
 
-ghost use Rattle.std.specs.Prelude.{◌≡◌, ◌==◌, ◌++◌, ◌∷◌, [], filter, flat_map, length, IfOk, OnOk, IsTrue};
+ghost use Rattle.std.specs.Prelude.{◌≡◌, ◌++◌, ◌∷◌, [], flat_map, length, IfOk, OnOk, IsTrue};
 ghost use Rattle.std.specs.List.{range_with_len};
 ghost use Rattle.mv_hub.specs.Hub.{are_parties};
 ghost use Rattle.mv_machine.specs.State.{is_party, applied_count, wire_of};
@@ -9,7 +9,6 @@ ghost use Rattle.mv_show.specs.Shown.{link_row, link_rows, lines_text};
 use crate::lines::Lines;
 use mv_lines::Member;
 use mv_message::Party;
-use mv_repository::LogEntry;
 use mv_system::World;
 use std::alloc::{AllocError, Global};
 
@@ -71,19 +70,17 @@ fn append_shown_link(
 }
 
 /// How many items of a sender a repository applied.
-#[tactic(auto, using(crate::proofs::PlaceLemmas::counted_from))]
 fn applied_count(world: &World, from: Party, to: Party) -> usize
     requires { IsTrue (is_party world.now to) }
     ensures { result ≡ applied_count world.now from to }
 {
-    entries_from(world.log(to), from)
-}
-
-/// How many entries of a log are of items from a sender.
-fn entries_from(log: &[LogEntry], sender: Party) -> usize
-    ensures { result ≡ length (filter (λ entry. entry.sender == sender) log.now) }
-{
-    log.iter().filter(|entry| entry.sender == sender).count()
+    let mut count = 0;
+    for entry in world.log(to) {
+        if entry.sender == from {
+            count += 1;
+        }
+    }
+    count
 }
 
 /// The numbers of the frames under way on a link, the front first.

@@ -178,17 +178,10 @@ fn append_held<'a>(
 fn user_of<'a>(log: &'a [LogEntry], change: &Option<Change>) -> &'a str
     ensures { result.now ≡ option_map_or (λ change. user_in (entry_at log.now change.entry).entry.item) change.now [] }
 {
-    match change {
-        Some(change) => user_at(log, change.entry),
-        None => "",
-    }
-}
-
-/// The user of the status at a place of a log.
-fn user_at(log: &[LogEntry], place: usize) -> &str
-    ensures { result.now ≡ user_in (entry_at log.now place).entry.item }
-{
-    match log.get(place) {
+    let Some(change) = change else {
+        return "";
+    };
+    match log.get(change.entry) {
         Some(entry) => user_in(&entry.item),
         None => "",
     }

@@ -3,7 +3,7 @@
 use mv_pack::{BatchKey, Gtin, PackKey};
 
 /// What a line of a party tells of.
-#[derive(Debug, PartialEq, Eq, Hash, Drop)]
+#[derive(PartialEq, Eq, Hash, Drop)]
 pub(crate) enum Subject {
     /// The party itself.
     Party,
@@ -16,7 +16,7 @@ pub(crate) enum Subject {
 }
 
 /// Of which kind the subjects are that entries of a log name.
-#[derive(Clone, Copy, Debug, PartialEq, Eq)]
+#[derive(Clone, Copy)]
 pub(crate) enum Kind {
     /// Products.
     Products,

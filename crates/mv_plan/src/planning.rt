@@ -54,7 +54,7 @@ fn plan_request(
             window,
             wire,
         } => match draft {
-            Some(_) => Ok(Some(refuse(alloc, OpenFault::AlreadyOpen)?)),
+            Some(_) => refuse(alloc, OpenFault::AlreadyOpen),
             None => begin(
                 alloc,
                 draft,
@@ -63,7 +63,7 @@ fn plan_request(
             ),
         },
         Request::Step(step) => match draft {
-            None => Ok(Some(refuse(alloc, OpenFault::NotOpen)?)),
+            None => refuse(alloc, OpenFault::NotOpen),
             Some(draft) => plan_step(alloc, draft, &step),
         },
     }
@@ -83,14 +83,14 @@ fn begin(
     let parties = match parties_of(alloc, lists) {
         Ok(parties) => parties,
         Err(OpenFault::Memory) => return Err(AllocError),
-        Err(fault) => return Ok(Some(refuse(alloc, fault)?)),
+        Err(fault) => return refuse(alloc, fault),
     };
     match limits {
         Ok(limits) => {
             *draft = Some(Draft::new(alloc, parties, limits)?);
             Ok(None)
         }
-        Err(fault) => Ok(Some(refuse(alloc, fault)?)),
+        Err(fault) => refuse(alloc, fault),
     }
 }
 
@@ -103,10 +103,10 @@ fn plan_step(alloc: Global, draft: &mut Draft, step: &Step) -> Result<Option<Str
     match step {
         Step::Submit { from, message } => {
             if !draft.is_party(*from) {
-                return Ok(Some(refuse_step(alloc, Refusal::Party)?));
+                return refuse_step(alloc, Refusal::Party);
             }
             if is_query_or_answer(message.get()) {
-                return Ok(Some(refuse_step(alloc, Refusal::NotYours)?));
+                return refuse_step(alloc, Refusal::NotYours);
             }
             // The plan has a message of its own, which it hands on to the party's end.
             draft.add(*from, message.get().copy(alloc)?)?;
@@ -114,7 +114,7 @@ fn plan_step(alloc: Global, draft: &mut Draft, step: &Step) -> Result<Option<Str
         }
         Step::Verify { party, key } => {
             if !draft.is_party(*party) {
-                return Ok(Some(refuse_step(alloc, Refusal::Party)?));
+                return refuse_step(alloc, Refusal::Party);
             }
             draft.add(*party, Message::Query { key: key.copy() })?;
             Ok(None)
@@ -124,15 +124,17 @@ fn plan_step(alloc: Global, draft: &mut Draft, step: &Step) -> Result<Option<Str
 }
 
 /// The text of a line that is refused as such a step is.
-fn refuse_step(alloc: Global, refusal: Refusal) -> Result<String, AllocError>
-    ensures { IfOk result (λ text. string_bytes text ≡ compact_text (refusal_value refusal)) }
+fn refuse_step(alloc: Global, refusal: Refusal) -> Result<Option<String>, AllocError>
+    ensures { IfOk result (λ text.
+        option_map string_bytes text ≡ Some (compact_text (refusal_value refusal))) }
 {
-    reply_text(alloc, &Reply::Refused(refusal))
+    Ok(Some(reply_text(alloc, &Reply::Refused(refusal))?))
 }
 
 /// The text of a line that is refused by what is open.
-fn refuse(alloc: Global, fault: OpenFault) -> Result<String, AllocError>
-    ensures { IfOk result (λ text. string_bytes text ≡ compact_text (refused (code_of fault))) }
+fn refuse(alloc: Global, fault: OpenFault) -> Result<Option<String>, AllocError>
+    ensures { IfOk result (λ text.
+        option_map string_bytes text ≡ Some (compact_text (refused (code_of fault)))) }
 {
-    refusal_text(alloc, fault.code())
+    Ok(Some(refusal_text(alloc, fault.code())?))
 }

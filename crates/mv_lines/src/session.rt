@@ -43,8 +43,7 @@ impl Answering for Session {
 
     fn answer(&mut self, _number: u32, line: &[u8], out: &mut Vec<u8>) -> Result<bool, AllocError> {
         let answered = self.take(line)?;
-        append_json(self.alloc, out, &answered)?;
-        Ok(true)
+        append_json(self.alloc, out, &answered).and(Ok(true))
     }
 }
 

@@ -15,7 +15,7 @@ returns-in-Ok-Some-clause-ran g c asked asks =
 pub returns-in-Ok-None-clause-ran : goal.returns-in-Ok-None-clause-ran
 returns-in-Ok-None-clause-ran g c asked asks =
     let wanted = c.in-Ok-None.ensures.task asked (subst (AsksFor asked) (sym (ap (map string_bytes) c.as_slice.ensures.value)) asks) in
-    absurd (cc (wanted, c.in-Ok-None.field-0-is))
+    cc (wanted, c.in-Ok-None.field-0-is)
 
 -- the words are mistaken
 pub returns-clause-mistaken : goal.returns-clause-mistaken

@@ -33,22 +33,13 @@ pub(crate) fn write_shown<W: Write>(
 {
     match world {
         Some(world) => write_world(alloc, world, writer)?,
-        None => write_not_open(alloc, writer)?,
+        None => {
+            let mut ready = Lines::new(alloc);
+            ready.push(&[Member::Text("refused", OpenFault::NotOpen.code())])?;
+            put_out(writer, ready.as_slice())?;
+        }
     }
     Ok(world.is_some())
-}
-
-/// Writes that no system is open.
-fn write_not_open<W: Write>(alloc: Global, writer: &mut W) -> Result<(), ServeFault>
-    ensures ok { OnOk result (Appends (W.contents writer.old) (W.contents writer.new)
-        (lines_text (shown_rows None))) }
-    ensures fault { IfErr result EndsWriting }
-    ensures err { IfErr result (λ _. WrotePart (lines_text (shown_rows None))
-        (W.contents writer.old) (W.contents writer.new)) }
-{
-    let mut ready = Lines::new(alloc);
-    ready.push(&[Member::Text("refused", OpenFault::NotOpen.code())])?;
-    put_out(writer, ready.as_slice())
 }
 
 /// Writes what stands of a system: of each party, and then of each link.

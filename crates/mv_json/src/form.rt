@@ -10,7 +10,7 @@ use crate::reading::text_at;
 use crate::{Field, MessageFault};
 
 /// The form of a message, which its field `msg` names.
-#[derive(Clone, Copy, Debug, PartialEq, Eq)]
+#[derive(Clone, Copy)]
 pub(crate) enum Form {
     /// `answer`: what was found of a pack.
     Answer,
@@ -90,7 +90,7 @@ pub(crate) fn form_at(object: &Object<'_>, version: Version) -> Result<Form, Mes
 }
 
 /// A version of the JSON form of messages.
-#[derive(Clone, Copy, Debug, PartialEq, Eq)]
+#[derive(Clone, Copy, PartialEq, Eq)]
 pub(crate) enum Version {
     /// The first, whose objects have no `v`.
     One,

@@ -3,7 +3,7 @@
 ghost use Rattle.std.specs.Prelude.{◌≡◌, ◌≢◌, IfErr, IfSome, filter};
 ghost use Rattle.mv_json.specs.Words.{Data, view};
 ghost use Rattle.mv_json.specs.Fields.{is_in};
-ghost use Rattle.mv_json.specs.Shapes.{present_fields, present_at, present_of, found_of, pack_found};
+ghost use Rattle.mv_json.specs.Shapes.{present_fields, present_at, found_of, pack_found};
 ghost use Rattle.mv_json.specs.Meanings.{part_of};
 ghost use Rattle.mv_json.specs.Reading.{GivesOr};
 ghost use Rattle.mv_json.specs.Parts.{Gives, MayGive, IsPart, IsValue, Stands};
@@ -63,7 +63,8 @@ pub(crate) fn sighting_in(object: &Object<'_>) -> Option<Sighting>
     Some(Sighting { found, version })
 }
 
-/// What a value says was found: M5 of `found` where it is neither `null` nor a legal pack.
+/// What a value says was found, where an object has no other key than the fields of a pack: M5 of `found` where it is neither `null` nor a legal pack.
+#[tactic(auto, unfolding(crate::specs::Shapes::present_of))]
 fn found_of(value: &Value, version: Version) -> Result<Found, MessageFault>
     ensures gives { result ≡ found_of version (view value.now) }
     // It takes no memory.
@@ -72,19 +73,14 @@ fn found_of(value: &Value, version: Version) -> Result<Found, MessageFault>
     if value.is_null() {
         return Ok(Found::Absent);
     }
-    present_of(value, version).map_err(|_| MessageFault::Kind(Field::Found))
-}
-
-/// The pack that an object is, which has no other key than its fields.
-#[tactic(auto, unfolding(crate::specs::Shapes::present_of))]
-fn present_of(value: &Value, version: Version) -> Result<Found, MessageFault>
-    ensures { result ≡ present_of version (view value.now) }
-{
-    let members = value.as_object().ok_or(MessageFault::NotObject)?;
+    let fault = Err(MessageFault::Kind(Field::Found));
+    let Some(members) = value.as_object() else {
+        return fault;
+    };
     if first_unknown(members, present_fields(version)).is_some() {
-        return Err(MessageFault::Kind(Field::Found));
+        return fault;
     }
-    present_at(&Object::Value(value), version)
+    present_at(&Object::Value(value), version).or(fault)
 }
 
 /// The fields of a pack that was found, in byte order of their names.

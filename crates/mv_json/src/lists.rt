@@ -8,6 +8,7 @@ ghost use Rattle.mv_json.specs.Parts.{Takes};
 
 use crate::object::Object;
 use crate::part::{Part, take};
+use crate::reading::packed;
 use crate::{Field, MessageFault};
 use mv_message::{Markets, Serials};
 use mv_pack::{Market, PackFault, Serial};
@@ -48,7 +49,12 @@ fn texts_at(value: &Value, field: Field, most: usize) -> Result<&[Value], Messag
 fn are_texts(list: &[Value]) -> bool
     ensures { result ≡ list_all (λ value. is_some (as_str (view value))) list.now }
 {
-    list.iter().all(|value| value.is_string())
+    for value in list {
+        if !value.is_string() {
+            return false;
+        }
+    }
+    true
 }
 
 /// The markets of a field, 1 to 32: M3, M5, M7, M6. Of fields that were met they are taken out, once.
@@ -110,7 +116,7 @@ fn one_in<T: Listed>(value: &Value, field: Field) -> Result<T, MessageFault>
     ensures { result ≡ read_item T.reads field (view value.now) }
 {
     let text = value.as_str().ok_or(MessageFault::Kind(field))?;
-    T::from_text(text).map_err(|fault| MessageFault::Pack(field, fault))
+    packed(field, T::from_text(text))
 }
 
 /// A value that stands in a list as its text.

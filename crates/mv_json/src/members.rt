@@ -40,16 +40,13 @@ fn unknown_key<'a, N: Named>(members: &'a Map<String, Value>, fields: &[N]) -> O
 }
 
 /// Whether a key is the name of one of these fields.
-#[tactic(auto, using(crate::proofs::MembersLemmas::list_any_of_map))]
 fn is_named<N: Named>(fields: &[N], key: &str) -> bool
     ensures { result ≡ list_any (bytes_eq key.now) (map N.name fields.now) }
 {
-    any_named(fields, key)
-}
-
-/// The same, where a clause sees the test of each field.
-fn any_named<N: Named>(fields: &[N], key: &str) -> bool
-    ensures { result ≡ list_any (λ field. bytes_eq key.now (N.name field)) fields.now }
-{
-    fields.iter().any(|field| key == field.name())
+    for field in fields {
+        if key == field.name() {
+            return true;
+        }
+    }
+    false
 }

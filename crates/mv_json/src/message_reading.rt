@@ -26,14 +26,11 @@ use std::alloc::Global;
 pub fn read(alloc: Global, bytes: &[u8]) -> Result<Message, MessageFault>
     ensures { GivesOr result (read_bytes bytes.now) MessageFault.Memory }
 {
-    let value = Value::from_slice(alloc, bytes).map_err(|error| {
-        if error.is_memory() {
-            MessageFault::Memory
-        } else {
-            MessageFault::NotJson
-        }
-    })?;
-    from_value(alloc, &value)
+    match Value::from_slice(alloc, bytes) {
+        Ok(value) => from_value(alloc, &value),
+        Err(error) if error.is_memory() => Err(MessageFault::Memory),
+        Err(_) => Err(MessageFault::NotJson),
+    }
 }
 
 /// Reads a message as `read` does, in memory that is kept from text to text: what is a legal message by its tokens, and what

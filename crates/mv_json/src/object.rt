@@ -1,7 +1,7 @@
 //! Objects of JSON, of which messages are read: values, and fields that were met. What stands in a field is read alike of both.
 #![tactic(auto, using(crate::proofs::PartLemmas::part_is))]
 
-ghost use Rattle.std.specs.Prelude.{◌≡◌, All, IsTrue, MatchOption, None, is_some, map, option_map};
+ghost use Rattle.std.specs.Prelude.{◌≡◌, IsTrue, MatchOption, None, is_some, map, option_map};
 ghost use Rattle.mv_json.specs.Words.{Data, as_bool, as_null, as_str, get};
 ghost use Rattle.mv_json.specs.Fields.{field_name};
 ghost use Rattle.mv_json.specs.Reading.{whole_number};
@@ -49,18 +49,16 @@ impl Object<'_> {
     pub(crate) fn has_met_only(&self, fields: &[Field]) -> bool
         ensures { IsTrue result → (value : Data) → Stands value self.now → HasOnly (map field_name fields.now) value }
     {
-        match self {
-            Object::Met(entries) => are_among(entries, fields),
-            Object::Value(_) => false,
+        let Object::Met(entries) = self else {
+            return false;
+        };
+        for met in entries {
+            if !is_one_of(met.field, fields) {
+                return false;
+            }
         }
+        true
     }
-}
-
-/// Whether each field that was met is one of these.
-fn are_among(entries: &[Entry<'_>], fields: &[Field]) -> bool
-    ensures { IsTrue result → All (λ met. IsOneOf fields.now met.field) entries.now }
-{
-    entries.iter().all(|met| is_one_of(met.field, fields))
 }
 
 /// Whether a field is one of these.
@@ -68,7 +66,12 @@ fn are_among(entries: &[Entry<'_>], fields: &[Field]) -> bool
 fn is_one_of(field: Field, fields: &[Field]) -> bool
     ensures { IsTrue result → IsOneOf fields.now field }
 {
-    fields.iter().any(|other| is_same(*other, field))
+    for other in fields {
+        if is_same(*other, field) {
+            return true;
+        }
+    }
+    false
 }
 
 impl<'a> Place<'a> {

@@ -66,8 +66,8 @@ pub(crate) fn find<'b, 'a>(entries: &'b [Entry<'a>], field: Field) -> Option<&'b
     ensures { MatchOption result (All (λ other. other.field ≢ field) entries.now)
         (λ part. Contains entries.now (entry field part.now)) }
 {
-    let met = entries.iter().find(|met| is_same(met.field, field))?;
-    Some(&met.part)
+    let place = place_of(entries, field)?;
+    Some(&entries[place].part)
 }
 
 /// Takes out what stands in a field.
@@ -80,8 +80,8 @@ pub(crate) fn take<'a>(entries: &mut Vec<Entry<'a>>, field: Field) -> Option<Par
 
 /// The place of a field among those that were met.
 fn place_of(entries: &[Entry<'_>], field: Field) -> Option<usize>
-    ensures { IfSome result (λ place. (place < length entries.now)
-        × ((d : AnEntry) → (get_or entries.now place d).field ≡ field)) }
+    ensures { MatchOption result (All (λ other. other.field ≢ field) entries.now)
+        (λ place. (place < length entries.now) × ((d : AnEntry) → (get_or entries.now place d).field ≡ field)) }
 {
     entries.iter().position(|met| is_same(met.field, field))
 }

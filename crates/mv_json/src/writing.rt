@@ -66,7 +66,7 @@ pub fn to_value(alloc: Global, message: &Message) -> Result<Value, MessageFault>
 {
     know_words(message);
     let text = text(alloc, message)?;
-    Value::from_str(alloc, text.as_str()).map_err(|_| MessageFault::Memory)
+    Value::from_str(alloc, text.as_str()).or(Err(MessageFault::Memory))
 }
 
 /// Each number that a message holds has 64 bits.

@@ -1,0 +1,7 @@
+use Rattle.std.proofs.Common.{All, take}
+use Rattle.mv_json.proofs.Words.{IsOneOf}
+use Rattle.mv_json.proofs.object.Object.has_met_only.Given as goal
+
+-- each field so far is one of these
+abbrev pub invariant-loop-met : goal.invariant-loop-met
+invariant-loop-met l = All (λ met. IsOneOf l.fields met.field) (take l.met-index l.met-items)

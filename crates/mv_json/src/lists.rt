@@ -106,7 +106,7 @@ fn list_in<T: Listed>(
     let list = texts_at(value, field, most)?;
     let mut all = Vec::with_capacity(alloc, list.len())?;
     for value in list {
-        all.push(one_in(value, field)?)?;
+        all.push_reserved(one_in(value, field)?);
     }
     Ok(all)
 }

@@ -83,7 +83,12 @@ fn place_of(entries: &[Entry<'_>], field: Field) -> Option<usize>
     ensures { MatchOption result (All (λ other. other.field ≢ field) entries.now)
         (λ place. (place < length entries.now) × ((d : AnEntry) → (get_or entries.now place d).field ≡ field)) }
 {
-    entries.iter().position(|met| is_same(met.field, field))
+    for place in 0..entries.len() {
+        if is_same(entries[place].field, field) {
+            return Some(place);
+        }
+    }
+    None
 }
 
 /// Whether two fields are one. Their numbers are faster to compare than they are.

@@ -199,7 +199,7 @@ fn take_list<T: Listed>(alloc: Global, reader: &mut Reader<'_>, most: usize) -> 
         if list.len() == most {
             return None;
         }
-        list.push(take_item(reader)?).ok()?;
+        list.push_reserved(take_item(reader)?);
     }
     if list.is_empty() {
         return None;

@@ -1,4 +1,4 @@
-use Rattle.std.proofs.Common.{◌≤◌, List, ◌++◌, length}
+use Rattle.std.proofs.Common.{◌≤◌, List, ◌++◌, length, vec_capacity}
 use Rattle.mv_json.proofs.Words.{BeginWithTexts, Token}
 use Rattle.mv_json.proofs.part_reading.take_list.Given as goal
 
@@ -8,6 +8,7 @@ invariant-loop-list g l = record {
   list : (list : List g.row.T.Denot) (rest : List Token) → BeginWithTexts g.T.Listed.reads l.reader list rest
       → BeginWithTexts g.T.Listed.reads l.initial.reader (l.list.items ++ list) rest;
   count : length l.list.items ≤ l.most;
+  room : l.most ≤ vec_capacity l.list;
 }
 
 abbrev pub decreases-loop-list : goal.decreases-loop-list

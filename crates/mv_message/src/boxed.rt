@@ -23,7 +23,7 @@ impl<T: Drop> Boxed<T> {
     pub fn new(alloc: Global, value: T) -> Result<Boxed<T>, AllocError>
         ensures { IfOk result (λ boxed. boxed ≡ value) }
     {
-        let value = Box::new(alloc, value).map_err(|_| AllocError)?;
+        let value = Box::new(alloc, value).or(Err(AllocError))?;
         Ok(Boxed { value })
     }
 

@@ -77,7 +77,7 @@ fn copies_of(alloc: Global, serials: &[Serial]) -> Result<Vec<Serial>, AllocErro
 {
     let mut copies = Vec::with_capacity(alloc, serials.len())?;
     for serial in serials {
-        copies.push(serial.copy())?;
+        copies.push_reserved(serial.copy());
     }
     Ok(copies)
 }

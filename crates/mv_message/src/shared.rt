@@ -23,7 +23,7 @@ impl<T: Drop> Shared<T> {
     pub fn new(alloc: Global, value: T) -> Result<Shared<T>, AllocError>
         ensures { IfOk result (λ shared. shared ≡ value) }
     {
-        let value = Arc::new(alloc, value).map_err(|_| AllocError)?;
+        let value = Arc::new(alloc, value).or(Err(AllocError))?;
         Ok(Shared { value })
     }
 

@@ -1,8 +1,7 @@
 //! The keys of JSON objects, for every reader of objects: it knows neither messages nor their fields.
 
-ghost use Rattle.std.specs.Prelude.{◌≡◌, ℕ, List, not, find, bytes_eq, map, string_bytes, option_map};
-ghost use Rattle.mv_json.specs.Words.{list_any, members_view, option_copied};
-ghost use Rattle.std.specs.BTreeMap.{keys};
+ghost use Rattle.std.specs.Prelude.{◌≡◌, ℕ, List, bytes_eq, map, option_map};
+ghost use Rattle.mv_json.specs.Words.{list_any, members_view};
 ghost use Rattle.mv_json.specs.Members.{first_unknown};
 
 use serde_json::{Map, Value};
@@ -24,19 +23,12 @@ pub fn first_unknown<'a, N: Named>(members: &'a Map<String, Value>, fields: &[N]
     ensures { option_map (λ key. key.now) result
         ≡ first_unknown (map N.name fields.now) (members_view members.now.entries) }
 {
-    match unknown_key(members, fields) {
-        Some(key) => Some(key.as_str()),
-        None => None,
+    for key in members.keys() {
+        if !is_named(fields, key.as_str()) {
+            return Some(key.as_str());
+        }
     }
-}
-
-/// The first such key, as the object holds it.
-fn unknown_key<'a, N: Named>(members: &'a Map<String, Value>, fields: &[N]) -> Option<&'a String>
-    ensures { option_copied result
-        ≡ find (λ key. not (list_any (bytes_eq (string_bytes key)) (map N.name fields.now)))
-        (keys members.now) }
-{
-    members.keys().find(|key| !is_named(fields, key.as_str()))
+    None
 }
 
 /// Whether a key is the name of one of these fields.

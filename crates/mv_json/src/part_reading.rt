@@ -47,21 +47,16 @@ fn next_field(reader: &mut Reader<'_>) -> Option<Option<Field>>
         (λ field. reader.old ≡ key (field_name field) ∷ reader.new)) }
 {
     match reader.next()? {
-        Token::Key(name) => Some(Some(field_named(name)?)),
+        Token::Key(name) => {
+            let field = likely_field(name.as_bytes())?;
+            if name != field.as_str() {
+                return None;
+            }
+            Some(Some(field))
+        }
         Token::EndObject => Some(None),
         _ => None,
     }
-}
-
-/// The field of that name.
-fn field_named(name: &str) -> Option<Field>
-    ensures { IfSome result (λ field. name.now ≡ field_name field) }
-{
-    let field = likely_field(name.as_bytes())?;
-    if name != field.as_str() {
-        return None;
-    }
-    Some(field)
 }
 
 /// The one field whose name may be these bytes, by how many they are and by one of them. No clause says more: whoever asks

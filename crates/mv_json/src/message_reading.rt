@@ -99,7 +99,9 @@ fn read_by_tokens(alloc: Global, scratch: &mut Scratch, bytes: &[u8]) -> Option<
     let Ok(text) = simdutf8::basic::from_utf8(bytes) else {
         return None;
     };
-    let mut reader = Reader::new(text, scratch).ok()?;
+    let Ok(mut reader) = Reader::new(text, scratch) else {
+        return None;
+    };
     let message = take_message(alloc, &mut reader)?;
     if reader.next().is_some() {
         return None;

@@ -29,7 +29,9 @@ pub(crate) fn take_members<'a>(
     ensures { IfSome result (λ entries. BeginWithEntries (suc (deep_in is_inside))
         (begin_object ∷ reader.old) entries.items reader.new) }
 {
-    let mut entries = Vec::with_capacity(alloc, MOST_FIELDS).ok()?;
+    let Ok(mut entries) = Vec::with_capacity(alloc, MOST_FIELDS) else {
+        return None;
+    };
     while let Some(field) = next_field(reader)? {
         let part = take_part(alloc, reader, field, is_inside)?;
         if !adds(&mut entries, field, part) {
@@ -189,7 +191,9 @@ fn take_list<T: Listed>(alloc: Global, reader: &mut Reader<'_>, most: usize) -> 
     ensures list { IfSome result (λ list. BeginWithTexts T.reads reader.old list.items reader.new) }
     ensures count { IfSome result (λ list. (1 ≤ length list.items) × (length list.items ≤ most)) }
 {
-    let mut list = Vec::with_capacity(alloc, most).ok()?;
+    let Ok(mut list) = Vec::with_capacity(alloc, most) else {
+        return None;
+    };
     while !reader.take_end_array() {
         if list.len() == most {
             return None;

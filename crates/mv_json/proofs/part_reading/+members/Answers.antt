@@ -6,7 +6,7 @@ use Rattle.mv_json.proofs.part_reading.+members.Goals as goal
 
 pub take_members-loop-entries-init : goal.take_members-loop-entries-init
 take_members-loop-entries-init t c =
-    let none : c.in_ok-entries.entries.items ≡ [] = search rules in
+    let none : c.in-Ok.entries.items ≡ [] = search rules in
     subst (λ entries. AreEntries (deep_in c.args.is_inside) c.args.reader.now entries c.args.reader.now) (sym none) (none_met _ _ _ _)
 
 pub take_members-loop-entries-smaller : goal.take_members-loop-entries-smaller
@@ -23,5 +23,5 @@ take_members-loop-entries-preserved t c =
 pub take_members-returns : goal.take_members-returns
 take_members-returns t c =
     let deep = deep_in c.args.is_inside in
-    let at : c.loop-entries.reader ≡ end_object ∷ c.next_field.new.reader = rw c.in_default.is at c.in_ok-field.ensures in
+    let at : c.loop-entries.reader ≡ end_object ∷ c.next_field.new.reader = rw c.in_default-2.is at c.in_ok-field.ensures in
     all_met _ _ deep _ _ _ (subst (AreEntries deep c.args.reader.now c.loop-entries.entries.items) at c.loop-entries.invariant)

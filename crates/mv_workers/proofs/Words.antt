@@ -12,7 +12,7 @@ pub use Rattle.mv_party.specs.Site.{SiteState, answers_in, new_site}
 pub use Rattle.mv_repository.specs.Repository.{items_from}
 pub use Rattle.mv_repository.specs.declared.entry.LogEntry.{LogEntry}
 pub use Rattle.mv_workers.specs.Crews.{AreBegun, Handle, IsBack, IsCrewOf, end_of, work_of}
-pub use Rattle.mv_workers.specs.Desks.{AllUnused, IsFurther, IsUnused, own_of, work_at}
+pub use Rattle.mv_workers.specs.Desks.{AllUnused, IsFurther, own_of}
 pub use Rattle.mv_workers.specs.Plans.{IsCarried}
 pub use Rattle.mv_workers.specs.Work.{is_answer, lists_of, own_among}
 pub use Rattle.std.proofs.lemmas.Bool.Decides.{nat_tests}

@@ -1,6 +1,5 @@
 -- What a log has about a pack gives its history, and so decides what that decides.
-use Rattle.std.specs.Prelude.{◌||◌, ◌++◌, ◌∷◌, ◌≡◌}
-use Rattle.mv_repository.proofs.Words.{Bool, List, None, Option, Some, [], ap, append_assoc, cond, cond_both, false, filter, find, map, refl, sym, ℕ, ◌∙◌, or-false, list_any-append, list_any, option_and_then, option_map_or, Item, Carried, Receipt, Message, batch_key, PackKey, LogEntry, Sent, filter_map, bears_on, about, AgreeOn, SentHistory, SentStatus, as_sent, history_of, sent_of, sent_status, made_batch, Ascends, Placed, ordered, is_recall_of, is_withdrawal_of, first_stops, is_before, first_upload, is_status_of, is_upload_of, statuses_of, arith, nat_tests, batch_in}
+use Rattle.mv_repository.proofs.Words.{◌||◌, ◌++◌, ◌∷◌, ◌≡◌, Bool, List, None, Option, Some, [], ap, append_assoc, cond, cond_both, false, filter, find, map, refl, sym, ℕ, ◌∙◌, or-false, list_any-append, list_any, option_and_then, option_map_or, Item, Carried, Receipt, Message, batch_key, PackKey, LogEntry, Sent, filter_map, bears_on, about, AgreeOn, SentHistory, SentStatus, as_sent, history_of, sent_of, sent_status, made_batch, Ascends, Placed, ordered, is_recall_of, is_withdrawal_of, first_stops, is_before, first_upload, is_status_of, is_upload_of, statuses_of, arith, nat_tests, batch_in}
 use Rattle.mv_repository.proofs.HistoryLemmas.{batch-upload, same_history}
 use Rattle.mv_repository.proofs.OrderLemmas.{ordered-ascends}
 use Rattle.mv_repository.proofs.StateLemmas.{first-before}

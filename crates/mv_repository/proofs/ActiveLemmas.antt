@@ -1,6 +1,5 @@
 -- What is kept of a pack says what it is, and whether it is active.
-use Rattle.std.specs.Prelude.{◌≡◌, ◌∷◌, ◌==◌, ◌⊎◌}
-use Rattle.mv_repository.proofs.Words.{ℕ, List, [], refl, sym, ◌∙◌, ap, arith, true, false, cond, cond_both, Option, Some, None, IfSome, filter, fold, inl, inr, get_or, nat_tests, option_map, option_map_or, unwrap_or, Held, PackKey, LogEntry, distinct_count, is_same_pack, uploaded_packs, Placed, ordered, is_active, is_done, pack_state, held_of, standing_in, known_at, effect_on, next_by, FirstStops, first_stops, entry_at, place_of, no_entry, is_upload_of, is_status_of, statuses_of, pack_grown, track_of, held_at, option_and_then, Bool, Active, is_counted}
+use Rattle.mv_repository.proofs.Words.{◌≡◌, ◌∷◌, ◌==◌, ◌⊎◌, ℕ, List, [], refl, sym, ◌∙◌, ap, arith, true, false, cond, cond_both, Option, Some, None, IfSome, filter, fold, inl, inr, get_or, nat_tests, option_map, option_map_or, unwrap_or, Held, PackKey, LogEntry, distinct_count, is_same_pack, uploaded_packs, Placed, ordered, is_active, is_done, pack_state, held_of, standing_in, known_at, effect_on, next_by, FirstStops, first_stops, entry_at, place_of, no_entry, is_upload_of, is_status_of, statuses_of, pack_grown, track_of, held_at, option_and_then, Bool, Active, is_counted}
 use Rattle.mv_repository.proofs.OrderLemmas.{Stand, find-true, ordered-ascends, ordered-stand}
 use Rattle.mv_repository.proofs.StateLemmas.{known-grown, entry-stands, find-stand}
 use Rattle.mv_repository.proofs.TableLemmas.{filter-stand}

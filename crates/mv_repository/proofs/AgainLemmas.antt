@@ -1,6 +1,5 @@
 -- Tracks that are worked out again, also without need.
-use Rattle.std.specs.Prelude.{◌≡◌, ◌+◌}
-use Rattle.mv_repository.proofs.Words.{arith, nat_tests, bytes_eq, Bool, None, Option, Some, [], ap, false, get_or, length, map, refl, subst, sym, take, true, true≢false, ℕ, ◌∙◌, List, lookup, IfSome, option_and_then, option_map, made_batch, pack_key, LogEntry, Slot, Made, Own, Placed, Stops, stops_in, ordered, IsAgain, IsPackOf, IsRefreshed, IsShelfOf, ShelfTable, is_listed, kept_by, no_shelf, nothing_kept, AreStopsOf, no_entry, place_of, IsKept, Kept, Life, first_upload, statuses_of, life_of}
+use Rattle.mv_repository.proofs.Words.{◌≡◌, ◌+◌, arith, nat_tests, bytes_eq, Bool, None, Option, Some, [], ap, false, get_or, length, map, refl, subst, sym, take, true, true≢false, ℕ, ◌∙◌, List, lookup, IfSome, option_and_then, option_map, made_batch, pack_key, LogEntry, Slot, Made, Own, Placed, Stops, stops_in, ordered, IsAgain, IsPackOf, IsRefreshed, IsShelfOf, ShelfTable, is_listed, kept_by, no_shelf, nothing_kept, AreStopsOf, no_entry, place_of, IsKept, Kept, Life, first_upload, statuses_of, life_of}
 use Rattle.mv_repository.proofs.TableLemmas.{NoPack, filter-none, find-none, log-split}
 use Rattle.mv_repository.proofs.SerialLemmas.{serials-at}
 use Rattle.mv_repository.proofs.TrackLemmas.{track-is}

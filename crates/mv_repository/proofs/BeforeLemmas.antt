@@ -1,6 +1,5 @@
 -- What stands before an entry that comes last.
-use Rattle.std.specs.Prelude.{◌≡◌, ◌<◌, ◌∷◌, ◌||◌}
-use Rattle.mv_repository.proofs.Words.{ℕ, List, [], refl, ◌∙◌, ap, arith, Bool, true, false, cond, not, Option, Some, None, IfSome, is_some, find, filter, fold, nat_tests, list_any, AllByRecursion, BatchKey, PackKey, LogEntry, entries_before, Placed, passes, ordered, Ascends, KnownPack, is_recall_of, is_withdrawal_of, is_recalled_by, is_withdrawn_by, batch_standing, known_pack, FirstStops, first_stops, is_before, standing_at, is_upload_of, is_status_of, first_upload, statuses_of, pack_step, pack_grown}
+use Rattle.mv_repository.proofs.Words.{◌≡◌, ◌<◌, ◌∷◌, ◌||◌, ℕ, List, [], refl, ◌∙◌, ap, arith, Bool, true, false, cond, not, Option, Some, None, IfSome, is_some, find, filter, fold, nat_tests, list_any, AllByRecursion, BatchKey, PackKey, LogEntry, entries_before, Placed, passes, ordered, Ascends, KnownPack, is_recall_of, is_withdrawal_of, is_recalled_by, is_withdrawn_by, batch_standing, known_pack, FirstStops, first_stops, is_before, standing_at, is_upload_of, is_status_of, first_upload, statuses_of, pack_step, pack_grown}
 use Rattle.mv_repository.proofs.OrderLemmas.{AreBelow, ordered-ascends, ordered-below, find-all}
 use Rattle.mv_repository.proofs.StateLemmas.{known-grown}
 use Rattle.mv_repository.proofs.TableLemmas.{first_in, find-first, newest, filter-ascends}

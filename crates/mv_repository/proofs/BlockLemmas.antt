@@ -1,7 +1,6 @@
 -- Blocks of statuses, over any places and any rule by which a pack goes from one to the next.
 use Rattle.std.proofs.lemmas.Grind.{elements}
-use Rattle.std.specs.Prelude.{◌≡◌, ◌+◌, ◌-◌, ◌<◌, ◌≤◌, ◌∷◌, ◌++◌, ◌||◌, ◌==◌, ◌%◌}
-use Rattle.mv_repository.proofs.Words.{ℕ, zero, suc, List, [], length, get_or, take, drop, fold, insert, set, sym, ◌∙◌, ap, subst, true, arith, append-nil, append_assoc, nat_tests, take-add, at_drop_more, drop-drop, drop_at, drop_of_length-le, get_or_default, length-take-le, take-append-drop, take-append-le, take_all, take_at, take_more, take_more_set, drop-append-le, length-drop, length-append, fold-append, AllByRecursion, has_party, PartySet, Block, Cut, PARTIES_LIMIT, IsCovered, IsSummary, AreBlocks, IsFront, IsCut, without, Placed, common_steps}
+use Rattle.mv_repository.proofs.Words.{◌≡◌, ◌+◌, ◌-◌, ◌<◌, ◌≤◌, ◌∷◌, ◌++◌, ◌||◌, ◌==◌, ◌%◌, ℕ, zero, suc, List, [], length, get_or, take, drop, fold, insert, set, sym, ◌∙◌, ap, subst, true, arith, append-nil, append_assoc, nat_tests, take-add, at_drop_more, drop-drop, drop_at, drop_of_length-le, get_or_default, length-take-le, take-append-drop, take-append-le, take_all, take_at, take_more, take_more_set, drop-append-le, length-drop, length-append, fold-append, AllByRecursion, has_party, PartySet, Block, Cut, PARTIES_LIMIT, IsCovered, IsSummary, AreBlocks, IsFront, IsCut, without, Placed, common_steps}
 
 -- lists that are cut
 cut-take : {A : Type 0} (n : ℕ) (xs ys : List A) → n ≤ length xs → take n (take n xs ++ ys) ≡ take n xs

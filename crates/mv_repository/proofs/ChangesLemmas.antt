@@ -1,6 +1,5 @@
 -- The change of a pack names its status.
-use Rattle.std.specs.Prelude.{◌≡◌, ◌∷◌, ◌++◌}
-use Rattle.mv_repository.proofs.Words.{ℕ, List, [], Option, Some, None, IfSome, slice_get, PackKey, BatchKey, Upload, Status, Item, Carried, LogEntry, BatchStanding, Placed, ordered, KnownPack, batch_standing, pack_after_item, known_pack_from, NamesStatus, ChangeNamesStatus, arith, nat_tests}
+use Rattle.mv_repository.proofs.Words.{◌≡◌, ◌∷◌, ◌++◌, ℕ, List, [], Option, Some, None, IfSome, slice_get, PackKey, BatchKey, Upload, Status, Item, Carried, LogEntry, BatchStanding, Placed, ordered, KnownPack, batch_standing, pack_after_item, known_pack_from, NamesStatus, ChangeNamesStatus, arith, nat_tests}
 use Rattle.mv_repository.proofs.OrderLemmas.{AreOf, ordered-of}
 
 abbrev NamesIts : List LogEntry → PackKey → Option KnownPack → Type 0

@@ -1,8 +1,7 @@
 -- How many packs of a table are counted.
 use Rattle.std.proofs.Common.{rules}
 use Rattle.std.proofs.lemmas.Grind.{common_steps}
-use Rattle.std.specs.Prelude.{◌^◌, ◌≡◌, ◌-◌, ◌<◌, ◌∷◌, ◌++◌, ◌&&◌, ◌||◌}
-use Rattle.mv_repository.proofs.Words.{nat_tests, bytes_eq, ℕ, List, [], length, map, filter, not, min, refl, sym, ◌∙◌, ap, arith, Bool, true, false, cond, Option, Some, None, is_some, or-false, list_any-append, lookup-filter-values, option_filter, IsDistinct-cons, IsDistinct-head, IsDistinct-tail, IsDistinct-keys_filter, distinct_count-le, is_member-filter, is_some-lookup, length-from_keys, IsEquivalence, nat_list_eq_equiv, same_text, AllByRecursion, IsDistinct, lookup, keys_of, unwrap_or, distinct_count, is_member, is_same_pack, pack_key, PackKey, LogEntry, Slot, is_counted, slots_counted, flat_map, uploaded_packs, ShelfTable, kept_by, kept_in, no_shelf, shelf_of, AreTablesOf, Kept, bare, track_of, Counted, Tables}
+use Rattle.mv_repository.proofs.Words.{◌^◌, ◌≡◌, ◌-◌, ◌<◌, ◌∷◌, ◌++◌, ◌&&◌, ◌||◌, nat_tests, bytes_eq, ℕ, List, [], length, map, filter, not, min, refl, sym, ◌∙◌, ap, arith, Bool, true, false, cond, Option, Some, None, is_some, or-false, list_any-append, lookup-filter-values, option_filter, IsDistinct-cons, IsDistinct-head, IsDistinct-tail, IsDistinct-keys_filter, distinct_count-le, is_member-filter, is_some-lookup, length-from_keys, IsEquivalence, nat_list_eq_equiv, same_text, AllByRecursion, IsDistinct, lookup, keys_of, unwrap_or, distinct_count, is_member, is_same_pack, pack_key, PackKey, LogEntry, Slot, is_counted, slots_counted, flat_map, uploaded_packs, ShelfTable, kept_by, kept_in, no_shelf, shelf_of, AreTablesOf, Kept, bare, track_of, Counted, Tables}
 use Rattle.std.proofs.lemmas.List.Filters.{length-filter_both}
 use Rattle.mv_repository.proofs.KeptLemmas.{same_pack, pack-self, pack-sym}
 use Rattle.mv_repository.proofs.UploadedLemmas.{uploaded-found}

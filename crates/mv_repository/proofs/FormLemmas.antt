@@ -1,6 +1,5 @@
 -- What the tables are after one more entry, by its form.
-use Rattle.std.specs.Prelude.{◌≡◌, ◌+◌}
-use Rattle.mv_repository.proofs.Words.{ℕ, List, length, get_or, take, sym, ◌∙◌, true, Option, None, Some, Result, OnOk, OnErr, [], ap, Item, Message, Master, Upload, Status, Recall, Withdraw, Product, Standing, CivilDate, pack_key, BatchKey, PackKey, LogEntry, uploaded_in, uploaded_packs, is_master, AreMastersOf, ordered, IsShelfOf, ShelfTable, shelf_of, Stops, first_stops, no_entry, message_in, AreStopsOf, AreTablesOf, life_of, Tables, arith, nat_tests}
+use Rattle.mv_repository.proofs.Words.{◌≡◌, ◌+◌, ℕ, List, length, get_or, take, sym, ◌∙◌, true, Option, None, Some, Result, OnOk, OnErr, [], ap, Item, Message, Master, Upload, Status, Recall, Withdraw, Product, Standing, CivilDate, pack_key, BatchKey, PackKey, LogEntry, uploaded_in, uploaded_packs, is_master, AreMastersOf, ordered, IsShelfOf, ShelfTable, shelf_of, Stops, first_stops, no_entry, message_in, AreStopsOf, AreTablesOf, life_of, Tables, arith, nat_tests}
 use Rattle.mv_repository.proofs.PacksLemmas.{none-named}
 use Rattle.mv_repository.proofs.ProductLemmas.{masters-noted}
 use Rattle.mv_repository.proofs.SerialLemmas.{serials-at, shelf-stays}

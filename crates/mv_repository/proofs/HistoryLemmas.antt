@@ -1,6 +1,5 @@
 -- Two logs that have the same history of a pack agree on it.
-use Rattle.std.specs.Prelude.{◌≡◌, ◌∷◌}
-use Rattle.mv_repository.proofs.Words.{ℕ, List, [], refl, sym, ◌∙◌, ap, Bool, true, false, cond, Option, Some, None, IfSome, is_some, find, fold, map, option_map, option_and_then, PackKey, BatchKey, batch_key, Upload, Item, Receipt, Carried, LogEntry, BatchStanding, Placed, ordered, KnownPack, known_pack, new_pack, is_recall_of, is_withdrawal_of, is_withdrawn, Sent, sent_in, unplaced, is_batch_recalled, AgreeOn, made_batch, entry_of, pack_made_by, FirstStops, first_stops, is_before, first_upload, statuses_of, pack_changed, pack_step, pack_grown, SentStatus, SentHistory, sent_of, history_of, as_sent, HaveSameHistory, arith, nat_tests, batch_in}
+use Rattle.mv_repository.proofs.Words.{◌≡◌, ◌∷◌, ℕ, List, [], refl, sym, ◌∙◌, ap, Bool, true, false, cond, Option, Some, None, IfSome, is_some, find, fold, map, option_map, option_and_then, PackKey, BatchKey, batch_key, Upload, Item, Receipt, Carried, LogEntry, BatchStanding, Placed, ordered, KnownPack, known_pack, new_pack, is_recall_of, is_withdrawal_of, is_withdrawn, Sent, sent_in, unplaced, is_batch_recalled, AgreeOn, made_batch, entry_of, pack_made_by, FirstStops, first_stops, is_before, first_upload, statuses_of, pack_changed, pack_step, pack_grown, SentStatus, SentHistory, sent_of, history_of, as_sent, HaveSameHistory, arith, nat_tests, batch_in}
 use Rattle.mv_repository.proofs.OrderLemmas.{find-true, ordered-ascends}
 use Rattle.mv_repository.proofs.StateLemmas.{known-grown}
 use Rattle.mv_repository.proofs.BeforeLemmas.{any-find}

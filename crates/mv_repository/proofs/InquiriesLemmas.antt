@@ -1,6 +1,5 @@
 -- Lemmas on what a log says of its party's queries.
-use Rattle.std.specs.Prelude.{◌≡◌, ◌∷◌, ◌++◌, ◌&&◌, ◌||◌, ◌==◌}
-use Rattle.mv_repository.proofs.Words.{arith, nat_tests, refl, ℕ, List, [], ◌∙◌, ap, Bool, false, cond, Option, Some, None, is_some, length, list_any, option_or, option_map_or, or-false, list_any-append, Found, Message, Item, Receipt, Carried, LogEntry, Inquiries, Inquiry, asked_parties, finding_in, has_answered, found_active, found_explained, joint_verdict, sym, query_of, inquiry_after, lookup, nat_eq, no_inquiry, unwrap_or, has_reply, inquiry_of, IsInquiriesOf, query_reach, verdict_when, not, filter, Decided}
+use Rattle.mv_repository.proofs.Words.{◌≡◌, ◌∷◌, ◌++◌, ◌&&◌, ◌||◌, ◌==◌, arith, nat_tests, refl, ℕ, List, [], ◌∙◌, ap, Bool, false, cond, Option, Some, None, is_some, length, list_any, option_or, option_map_or, or-false, list_any-append, Found, Message, Item, Receipt, Carried, LogEntry, Inquiries, Inquiry, asked_parties, finding_in, has_answered, found_active, found_explained, joint_verdict, sym, query_of, inquiry_after, lookup, nat_eq, no_inquiry, unwrap_or, has_reply, inquiry_of, IsInquiriesOf, query_reach, verdict_when, not, filter, Decided}
 
 -- what is kept of a query, if only nothing
 abbrev pub inquiry_in : Inquiries → ℕ → Inquiry

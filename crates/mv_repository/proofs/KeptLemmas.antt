@@ -1,6 +1,5 @@
 -- Lemmas on the table of packs.
-use Rattle.std.specs.Prelude.{◌≡◌, ◌&&◌}
-use Rattle.mv_repository.proofs.Words.{bytes_eq, ℕ, List, Option, option_and_then, sym, true, same_text, nat_list_eq_equiv, PackKey, BatchKey, is_same_pack, is_same_batch, pack_key, batch_key, and_parts, Life, Placed, made_batch}
+use Rattle.mv_repository.proofs.Words.{◌≡◌, ◌&&◌, bytes_eq, ℕ, List, Option, option_and_then, sym, true, same_text, nat_list_eq_equiv, PackKey, BatchKey, is_same_pack, is_same_batch, pack_key, batch_key, and_parts, Life, Placed, made_batch}
 
 -- the batch of the upload that made a pack
 abbrev pub life_batch : Life → Option (List ℕ)

@@ -1,6 +1,5 @@
 -- The counts of a log that its tables of keys give.
-use Rattle.std.specs.Prelude.{◌≡◌, ◌∷◌, ◌&&◌, ◌||◌}
-use Rattle.mv_repository.proofs.Words.{bytes_eq, ℕ, List, [], length, sym, ◌∙◌, ap, Bool, cond, Option, None, is_some, filter, length-keys_of, length-from_keys, is_some-lookup, IsEquivalence, nat_list_eq_equiv, list_any, flat_map, IsDistinct, last_or, lookup, keys_of, distinct_count, is_member, Item, is_same_batch, BatchKey, LogEntry, mastered_in, recalled_in, is_master, AreMastersOf, Placed, ordered, is_recall_of, Stops, AreStopsOf, place_of, arith, nat_tests}
+use Rattle.mv_repository.proofs.Words.{◌≡◌, ◌∷◌, ◌&&◌, ◌||◌, bytes_eq, ℕ, List, [], length, sym, ◌∙◌, ap, Bool, cond, Option, None, is_some, filter, length-keys_of, length-from_keys, is_some-lookup, IsEquivalence, nat_list_eq_equiv, list_any, flat_map, IsDistinct, last_or, lookup, keys_of, distinct_count, is_member, Item, is_same_batch, BatchKey, LogEntry, mastered_in, recalled_in, is_master, AreMastersOf, Placed, ordered, is_recall_of, Stops, AreStopsOf, place_of, arith, nat_tests}
 use Rattle.mv_repository.proofs.KeptLemmas.{text-sym, text-self, same_batch}
 use Rattle.mv_repository.proofs.UploadedLemmas.{any-ordered, any-flat, found-any, some-map}
 

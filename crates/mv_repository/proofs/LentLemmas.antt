@@ -1,6 +1,5 @@
 -- The places that the tables keep of a pack are those of its history.
-use Rattle.std.specs.Prelude.{◌≡◌}
-use Rattle.mv_repository.proofs.Words.{[], bytes_eq, ℕ, List, map, lookup, option_map, option_and_then, is_same_batch, batch_key, PackKey, LogEntry, AreAt, history_of, ordered, Option, Held, pack_state, Stops, AreStopsOf, entry_at, is_upload_of, track_of, arith, nat_tests}
+use Rattle.mv_repository.proofs.Words.{◌≡◌, [], bytes_eq, ℕ, List, map, lookup, option_map, option_and_then, is_same_batch, batch_key, PackKey, LogEntry, AreAt, history_of, ordered, Option, Held, pack_state, Stops, AreStopsOf, entry_at, is_upload_of, track_of, arith, nat_tests}
 use Rattle.mv_repository.proofs.OrderLemmas.{ordered-of, ordered-stand, filter-all, find-all}
 use Rattle.mv_repository.proofs.StateLemmas.{find-stands, map-stands}
 use Rattle.mv_repository.proofs.TableLemmas.{filter-stand}

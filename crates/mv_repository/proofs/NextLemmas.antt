@@ -1,6 +1,5 @@
 -- What `next` gives is one step of the pack's state, so the place of one entry is all that has to be kept of it.
-use Rattle.std.specs.Prelude.{◌≡◌, ◌∷◌, ◌%◌}
-use Rattle.mv_repository.proofs.Words.{ℕ, List, [], refl, Bool, true, false, cond, Option, Some, None, fold, AllByRecursion, option_map, PackKey, BatchKey, Standing, Status, Item, Carried, LogEntry, PartySet, batch_key, has_party, PARTIES_LIMIT, IsCovered, BatchStanding, Placed, KnownPack, is_active, is_done, change_effect, pack_made_by, standing_in, change_in, known_at, effect_from, message_in, next_by, next_place, FirstStops, standing_at, entry_at, pack_changed, pack_step, pack_grown, arith, nat_tests}
+use Rattle.mv_repository.proofs.Words.{◌≡◌, ◌∷◌, ◌%◌, ℕ, List, [], refl, Bool, true, false, cond, Option, Some, None, fold, AllByRecursion, option_map, PackKey, BatchKey, Standing, Status, Item, Carried, LogEntry, PartySet, batch_key, has_party, PARTIES_LIMIT, IsCovered, BatchStanding, Placed, KnownPack, is_active, is_done, change_effect, pack_made_by, standing_in, change_in, known_at, effect_from, message_in, next_by, next_place, FirstStops, standing_at, entry_at, pack_changed, pack_step, pack_grown, arith, nat_tests}
 use Rattle.mv_repository.specs.declared.effect.Effect.TheVariants as effects
 
 pub born : (birth : Placed) → known_at birth birth ≡ pack_made_by birth.entry.item

@@ -1,6 +1,5 @@
 -- Lemmas on the order of stamps.
-use Rattle.std.specs.Prelude.{◌≡◌, ◌+◌, ◌<◌, ◌∷◌, ◌++◌}
-use Rattle.mv_repository.proofs.Words.{slice_get, Some, get_or, ℕ, suc, List, [], length, fold, refl, sym, ◌∙◌, ap, subst, arith, Bool, true, false, cond, cond_both, IfSome, Option, filter, find, nat_tests, get_or_append_left, slice_get_within, get_or_from_slice_get, AllByRecursion, last_or, LogEntry, Placed, passes, put_in, ordered, stands_before, Ascends, IsOrderOf, no_entry, IsPermutation-cons, IsPermutation-middle, IsPermutation-trans, IsPermutation}
+use Rattle.mv_repository.proofs.Words.{◌≡◌, ◌+◌, ◌<◌, ◌∷◌, ◌++◌, slice_get, Some, get_or, ℕ, suc, List, [], length, fold, refl, sym, ◌∙◌, ap, subst, arith, Bool, true, false, cond, cond_both, IfSome, Option, filter, find, nat_tests, get_or_append_left, slice_get_within, get_or_from_slice_get, AllByRecursion, last_or, LogEntry, Placed, passes, put_in, ordered, stands_before, Ascends, IsOrderOf, no_entry, IsPermutation-cons, IsPermutation-middle, IsPermutation-trans, IsPermutation}
 
 -- what holds of each holds of each that passes a test, of the first and of the last of them, and of what is put in too
 pub map-all : {A : Type 0} (P Q : A → Type 0) → ((x : A) → P x → Q x) → (xs : List A) → AllByRecursion P xs → AllByRecursion Q xs

@@ -1,6 +1,5 @@
 -- What is kept of all packs, by what is kept of those of each product.
-use Rattle.std.specs.Prelude.{◌≡◌, ◌+◌, ◌∷◌, ◌&&◌}
-use Rattle.mv_repository.proofs.Words.{bytes_eq, ℕ, List, [], length, get_or, take, sym, ◌∙◌, ap, arith, cond, true, false, Option, lookup, unwrap_or, Item, pack_key, PackKey, LogEntry, uploaded_in, uploaded_packs, ShelfTable, kept_in, IsShelfOf, IsUploadOf, no_shelf, shelf_of, no_entry, is_upload_of, is_status_of, life_of, track_of, bare, nat_tests, common_steps}
+use Rattle.mv_repository.proofs.Words.{◌≡◌, ◌+◌, ◌∷◌, ◌&&◌, bytes_eq, ℕ, List, [], length, get_or, take, sym, ◌∙◌, ap, arith, cond, true, false, Option, lookup, unwrap_or, Item, pack_key, PackKey, LogEntry, uploaded_in, uploaded_packs, ShelfTable, kept_in, IsShelfOf, IsUploadOf, no_shelf, shelf_of, no_entry, is_upload_of, is_status_of, life_of, track_of, bare, nat_tests, common_steps}
 use Rattle.mv_repository.proofs.TableLemmas.{longer, log-split}
 use Rattle.mv_repository.proofs.SerialLemmas.{AreSamePacks, serials-at, status-serials, upload-serials}
 use Rattle.mv_repository.proofs.TrackLemmas.{status-form}

@@ -1,6 +1,5 @@
 -- Lemmas on places in the log, where the entries are in the order of stamps.
-use Rattle.std.specs.Prelude.{◌≡◌, ◌<◌, ◌≤◌, ◌∷◌}
-use Rattle.mv_repository.proofs.Words.{ℕ, zero, suc, List, [], length, map, get_or, insert, take, not, refl, arith, nat_tests, Bool, true, false, LogEntry, Placed, passes, stands_before, Ascends, entry_at, filter, IsPartitionedBy, IsPartitionPoint}
+use Rattle.mv_repository.proofs.Words.{◌≡◌, ◌<◌, ◌≤◌, ◌∷◌, ℕ, zero, suc, List, [], length, map, get_or, insert, take, not, refl, arith, nat_tests, Bool, true, false, LogEntry, Placed, passes, stands_before, Ascends, entry_at, filter, IsPartitionedBy, IsPartitionPoint}
 use Rattle.mv_repository.proofs.OrderLemmas.{StandsBeforeAll}
 use Rattle.mv_repository.proofs.TableLemmas.{put_place}
 

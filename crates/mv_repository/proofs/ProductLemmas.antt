@@ -1,7 +1,6 @@
 -- Lemmas on the last master of a code, and on the table that finds it.
 use Rattle.std.proofs.Common.{rules}
-use Rattle.std.specs.Prelude.{◌≡◌, ◌+◌, ◌∷◌}
-use Rattle.mv_repository.proofs.Words.{bytes_eq, ℕ, List, [], length, get_or, take, refl, sym, ◌∙◌, ap, Bool, true, false, cond, cond_both, Option, Some, None, IfSome, filter, same_text, filter_map, last_or, cons_option, lookup, option_map, option_and_then, Item, Master, Product, LogEntry, is_master, AreMastersOf, Message, message_in, entry_at, Placed, passes, put_in, ordered, Ascends, product_under, product_of, place_of, no_entry, arith, nat_tests, option_map_or}
+use Rattle.mv_repository.proofs.Words.{◌≡◌, ◌+◌, ◌∷◌, bytes_eq, ℕ, List, [], length, get_or, take, refl, sym, ◌∙◌, ap, Bool, true, false, cond, cond_both, Option, Some, None, IfSome, filter, same_text, filter_map, last_or, cons_option, lookup, option_map, option_and_then, Item, Master, Product, LogEntry, is_master, AreMastersOf, Message, message_in, entry_at, Placed, passes, put_in, ordered, Ascends, product_under, product_of, place_of, no_entry, arith, nat_tests, option_map_or}
 use Rattle.mv_repository.proofs.OrderLemmas.{still-stand, passes_behind, ordered-ascends, ordered-stand, last-all}
 use Rattle.mv_repository.proofs.TableLemmas.{longer, newest, newest-stands, at-newest, filter-ascends, filter-more, filter-none, filter-stand, found-more}
 

@@ -1,6 +1,5 @@
 -- Two logs with distinct stamps that have the same messages about a pack have them in the same order.
-use Rattle.std.specs.Prelude.{◌≡◌, ◌<◌, ◌∷◌, ◌⊎◌}
-use Rattle.mv_repository.proofs.Words.{ℕ, zero, suc, List, [], length, refl, sym, ◌∙◌, ap, subst, arith, Bool, true, false, cond, Option, Some, filter, inl, inr, ⊤, Contains, slice_get, nat_tests, PackKey, Message, Item, Carried, LogEntry, slice_get_within, get_or_from_slice_get, slice_get-get_or, AllByRecursion, cons_option, None, Placed, ordered, put_in, stands_before, Ascends, Sent, sent_in, bears_on, about, AgreeOn, HasDistinctStamps, HaveSameAbout, HaveSameEntries, common_steps, All-contains, All-from_recursion, Contains-permutation, batch_in}
+use Rattle.mv_repository.proofs.Words.{◌≡◌, ◌<◌, ◌∷◌, ◌⊎◌, ℕ, zero, suc, List, [], length, refl, sym, ◌∙◌, ap, subst, arith, Bool, true, false, cond, Option, Some, filter, inl, inr, ⊤, Contains, slice_get, nat_tests, PackKey, Message, Item, Carried, LogEntry, slice_get_within, get_or_from_slice_get, slice_get-get_or, AllByRecursion, cons_option, None, Placed, ordered, put_in, stands_before, Ascends, Sent, sent_in, bears_on, about, AgreeOn, HasDistinctStamps, HaveSameAbout, HaveSameEntries, common_steps, All-contains, All-from_recursion, Contains-permutation, batch_in}
 use Rattle.mv_repository.proofs.OrderLemmas.{placed_after, put_in-permutes, StandsBeforeAll, AreOf, ordered-ascends, ordered-of, filter-all}
 use Rattle.mv_repository.proofs.AboutLemmas.{agree, first_batch, batch-first, sent_by}
 use Rattle.mv_repository.proofs.StampsLemmas.{stamp_in, stamp_at, HasNoStampTwice, not-twice}

@@ -1,6 +1,5 @@
 -- The serial numbers of a product that a log names, after one more entry.
-use Rattle.std.specs.Prelude.{◌≡◌, ◌+◌, ◌∷◌}
-use Rattle.mv_repository.proofs.Words.{bytes_eq, ℕ, List, [], length, get_or, take, fold, sym, ◌∙◌, ap, subst, true, true≢false, cond, insert_key, Item, Carried, Upload, Status, pack_key, PackKey, LogEntry, ShelfTable, IsPackOf, IsShelfOf, IsUploadOf, Life, life_of, is_status_of, no_entry, serials_in, serials_of}
+use Rattle.mv_repository.proofs.Words.{◌≡◌, ◌+◌, ◌∷◌, bytes_eq, ℕ, List, [], length, get_or, take, fold, sym, ◌∙◌, ap, subst, true, true≢false, cond, insert_key, Item, Carried, Upload, Status, pack_key, PackKey, LogEntry, ShelfTable, IsPackOf, IsShelfOf, IsUploadOf, Life, life_of, is_status_of, no_entry, serials_in, serials_of}
 use Rattle.mv_repository.proofs.KeptLemmas.{same_pack}
 use Rattle.mv_repository.proofs.StoppedLemmas.{once-all}
 use Rattle.mv_repository.proofs.TableLemmas.{log-split}

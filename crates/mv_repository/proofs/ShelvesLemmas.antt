@@ -1,6 +1,5 @@
 -- What is kept of all packs, where the shelf of one product is written.
-use Rattle.std.specs.Prelude.{◌≡◌, ◌∷◌, ◌||◌}
-use Rattle.mv_repository.proofs.Words.{bytes_eq, ℕ, List, refl, sym, subst, Bool, true, false, cond, same_text, LogEntry, IsShelfOf, no_shelf, arith, nat_tests, [], HashSet, lookup, map, lists, is_in, not, option_map, ShelfTable, shelf_of, unwrap_or}
+use Rattle.mv_repository.proofs.Words.{◌≡◌, ◌∷◌, ◌||◌, bytes_eq, ℕ, List, refl, sym, subst, Bool, true, false, cond, same_text, LogEntry, IsShelfOf, no_shelf, arith, nat_tests, [], HashSet, lookup, map, lists, is_in, not, option_map, ShelfTable, shelf_of, unwrap_or}
 use Rattle.mv_repository.proofs.SerialLemmas.{AreSamePacks, shelf-stays}
 
 -- the product has this shelf, and each other product its own

@@ -1,6 +1,5 @@
 -- Lemmas on the stamps of a log: they are distinct where none stands at two places.
-use Rattle.std.specs.Prelude.{◌≡◌, ◌∷◌}
-use Rattle.mv_repository.proofs.Words.{ℕ, suc, List, [], refl, ap, arith, false, nat_eq, Option, Some, None, filter_map, AllByRecursion, IsDistinct, option_map, option_and_then, slice_get, nat_tests, Item, Receipt, Carried, LogEntry, Sent, sent_in, HasDistinctStamps}
+use Rattle.mv_repository.proofs.Words.{◌≡◌, ◌∷◌, ℕ, suc, List, [], refl, ap, arith, false, nat_eq, Option, Some, None, filter_map, AllByRecursion, IsDistinct, option_map, option_and_then, slice_get, nat_tests, Item, Receipt, Carried, LogEntry, Sent, sent_in, HasDistinctStamps}
 
 -- the stamp of an item that was carried, and of the one at a place of a log
 abbrev pub stamp_in : Item → Option ℕ

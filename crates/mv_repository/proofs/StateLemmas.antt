@@ -1,6 +1,5 @@
 -- What a pack is depends on its own entries, the first recall of its batch and the first withdrawal of its product.
-use Rattle.std.specs.Prelude.{◌≡◌, ◌∷◌, ◌++◌}
-use Rattle.mv_repository.proofs.Words.{List, [], refl, sym, ◌∙◌, ap, append_assoc, Bool, true, false, cond, Option, Some, None, IfSome, find, fold, map, get_or, list_any, option_or, option_map, PackKey, LogEntry, Placed, stands_before, Ascends, KnownPack, batch_standing, pack_after_item, known_pack_from, known_pack, pack_made_by, FirstStops, first_stops, is_before, standing_at, entry_at, place_of, no_entry, is_upload_of, is_status_of, first_upload, statuses_of, pack_changed, pack_step, pack_grown, arith, nat_tests}
+use Rattle.mv_repository.proofs.Words.{◌≡◌, ◌∷◌, ◌++◌, List, [], refl, sym, ◌∙◌, ap, append_assoc, Bool, true, false, cond, Option, Some, None, IfSome, find, fold, map, get_or, list_any, option_or, option_map, PackKey, LogEntry, Placed, stands_before, Ascends, KnownPack, batch_standing, pack_after_item, known_pack_from, known_pack, pack_made_by, FirstStops, first_stops, is_before, standing_at, entry_at, place_of, no_entry, is_upload_of, is_status_of, first_upload, statuses_of, pack_changed, pack_step, pack_grown, arith, nat_tests}
 use Rattle.mv_repository.proofs.OrderLemmas.{StandsBeforeAll, Stand, find-all}
 
 -- what is found behind y doesn't stand before it

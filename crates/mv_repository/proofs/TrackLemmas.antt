@@ -1,8 +1,7 @@
 -- What is kept of a pack, and worked out by places in a log, is what the log means.
 use Rattle.std.proofs.Common.{rules}
 use Rattle.std.proofs.lemmas.Grind.{common_steps}
-use Rattle.std.specs.Prelude.{◌≡◌, ◌<◌, ◌≤◌, ◌∷◌}
-use Rattle.mv_repository.proofs.Words.{is_same_pack, is_master, uploaded_in, length-map, take_at, length-take-le, get_or-insert_at, take-map, drop-map, AllByRecursion, insert, ℕ, List, [], length, get_or, take, drop, refl, sym, ◌∙◌, ap, subst, true, false, cond, cond_both, Option, Some, None, IfSome, is_some, true≢false, fold, map, filter, option_map, option_map_or, unwrap_or, PackKey, BatchKey, Status, Item, Carried, LogEntry, PartySet, Block, batch_key, Effect, BatchStanding, Placed, passes, stands_before, ordered, Ascends, KnownPack, change_effect, is_active, is_done, batch_standing, known_pack, entries_before, effect_after, effect_of, IsCovered, AreBlocks, standing_in, effect_from, message_in, effect_on, next_by, next_place, FirstStops, Stops, first_stops, stops_in, entry_at, place_of, no_entry, standing_at, AreStopsOf, Kept, is_upload_of, is_status_of, first_upload, statuses_of, pack_grown, life_of, start_of, track_of, IsKept, IsTrack, arith, nat_tests}
+use Rattle.mv_repository.proofs.Words.{◌≡◌, ◌<◌, ◌≤◌, ◌∷◌, is_same_pack, is_master, uploaded_in, length-map, take_at, length-take-le, get_or-insert_at, take-map, drop-map, AllByRecursion, insert, ℕ, List, [], length, get_or, take, drop, refl, sym, ◌∙◌, ap, subst, true, false, cond, cond_both, Option, Some, None, IfSome, is_some, true≢false, fold, map, filter, option_map, option_map_or, unwrap_or, PackKey, BatchKey, Status, Item, Carried, LogEntry, PartySet, Block, batch_key, Effect, BatchStanding, Placed, passes, stands_before, ordered, Ascends, KnownPack, change_effect, is_active, is_done, batch_standing, known_pack, entries_before, effect_after, effect_of, IsCovered, AreBlocks, standing_in, effect_from, message_in, effect_on, next_by, next_place, FirstStops, Stops, first_stops, stops_in, entry_at, place_of, no_entry, standing_at, AreStopsOf, Kept, is_upload_of, is_status_of, first_upload, statuses_of, pack_grown, life_of, start_of, track_of, IsKept, IsTrack, arith, nat_tests}
 use Rattle.mv_repository.specs.declared.effect.Effect.TheVariants as effects
 use Rattle.mv_repository.proofs.OrderLemmas.{ordered-ascends, ordered-below, ordered-stand, Stand, still-stand}
 use Rattle.mv_repository.proofs.StateLemmas.{entry-stands, map-stands, find-stand}

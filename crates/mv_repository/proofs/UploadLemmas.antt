@@ -1,7 +1,6 @@
 -- An upload in what is kept of one pack.
 use Rattle.std.proofs.lemmas.Grind.{common_steps}
-use Rattle.std.specs.Prelude.{◌≡◌, ◌+◌, ◌<◌, ◌∷◌, ◌&&◌, ◌||◌}
-use Rattle.mv_repository.proofs.Words.{is_master, insert_key, keys_of, bytes_eq, ℕ, List, [], length, get_or, take, refl, sym, ◌∙◌, ap, subst, arith, Bool, true, false, cond, or-false, map, list_any_more, same_text, Item, pack_key, PackKey, LogEntry, ordered, kept_in, IsUploadOf, list_any, IsPackOf, IsShelfOf, ShelfTable, is_listed, made_batch, batch_at, comes_first, option_and_then, option_map, IfSome, Some, Option, Placed, first_upload, lookup, Stops, first_stops, stops_in, place_of, no_entry, AreStopsOf, earlier_place, Kept, Life, is_upload_of, is_status_of, statuses_of, life_of, track_of, IsKept, IsTrack, nat_tests, or-true}
+use Rattle.mv_repository.proofs.Words.{◌≡◌, ◌+◌, ◌<◌, ◌∷◌, ◌&&◌, ◌||◌, is_master, insert_key, keys_of, bytes_eq, ℕ, List, [], length, get_or, take, refl, sym, ◌∙◌, ap, subst, arith, Bool, true, false, cond, or-false, map, list_any_more, same_text, Item, pack_key, PackKey, LogEntry, ordered, kept_in, IsUploadOf, list_any, IsPackOf, IsShelfOf, ShelfTable, is_listed, made_batch, batch_at, comes_first, option_and_then, option_map, IfSome, Some, Option, Placed, first_upload, lookup, Stops, first_stops, stops_in, place_of, no_entry, AreStopsOf, earlier_place, Kept, Life, is_upload_of, is_status_of, statuses_of, life_of, track_of, IsKept, IsTrack, nat_tests, or-true}
 use Rattle.mv_repository.proofs.KeptLemmas.{life_batch, text-self}
 use Rattle.mv_repository.proofs.OrderLemmas.{ordered-stand, still-stand}
 use Rattle.mv_repository.proofs.StateLemmas.{find-stand}

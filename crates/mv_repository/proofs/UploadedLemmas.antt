@@ -1,6 +1,5 @@
 -- Uploads: which packs a log names, and how many of those that an upload names are new.
-use Rattle.std.specs.Prelude.{◌≡◌, ◌+◌, ◌<◌, ◌∷◌, ◌++◌, ◌&&◌, ◌||◌}
-use Rattle.mv_repository.proofs.Words.{nat_tests, bytes_eq, ℕ, List, [], length, take, get_or, refl, sym, ◌∙◌, ap, arith, subst, append-nil, length-append, Bool, true, false, cond, not, Option, IfSome, is_some, find, filter, map, or-false, flat_map-append, length-map, take_more, filter-append, list_any-append, is_member-filter, IsEquivalence, same_text, nat_list_eq_equiv, list_any, flat_map, option_map, distinct_count, is_member, Item, Carried, Upload, is_same_pack, pack_key, PackKey, LogEntry, uploaded_in, uploaded_packs, entries_before, Placed, put_in, ordered, has_pack, known_pack, IsUploadOf, first_stops, is_before, place_of, no_entry, comes_first, earlier_place, is_upload_of, first_upload, statuses_of, pack_grown, track_of, and-true, list_any-IsPermutation}
+use Rattle.mv_repository.proofs.Words.{◌≡◌, ◌+◌, ◌<◌, ◌∷◌, ◌++◌, ◌&&◌, ◌||◌, nat_tests, bytes_eq, ℕ, List, [], length, take, get_or, refl, sym, ◌∙◌, ap, arith, subst, append-nil, length-append, Bool, true, false, cond, not, Option, IfSome, is_some, find, filter, map, or-false, flat_map-append, length-map, take_more, filter-append, list_any-append, is_member-filter, IsEquivalence, same_text, nat_list_eq_equiv, list_any, flat_map, option_map, distinct_count, is_member, Item, Carried, Upload, is_same_pack, pack_key, PackKey, LogEntry, uploaded_in, uploaded_packs, entries_before, Placed, put_in, ordered, has_pack, known_pack, IsUploadOf, first_stops, is_before, place_of, no_entry, comes_first, earlier_place, is_upload_of, first_upload, statuses_of, pack_grown, track_of, and-true, list_any-IsPermutation}
 use Rattle.mv_repository.proofs.BeforeLemmas.{stays_before, counted, counted-before, find-below, known-before, any-find}
 use Rattle.mv_repository.proofs.KeptLemmas.{text-sym}
 use Rattle.mv_repository.proofs.OrderLemmas.{placed_after, put_in-permutes, find-true, ordered-below, still-stand}

@@ -44,5 +44,6 @@ pub use Rattle.std.specs.Cmp.Lexicographic.{nat_list_eq_equiv, same_text}
 pub use Rattle.std.specs.Cmp.{IsEquivalence}
 pub use Rattle.std.specs.List.Sorted.{IsPartitionPoint, IsPartitionedBy, IsPermutation}
 pub use Rattle.std.specs.List.{AllByRecursion, Contains, cons_option, filter_map, flat_map, last_or, list_any}
+pub use Rattle.std.specs.Prelude.{◌%◌, ◌&&◌, ◌++◌, ◌+◌, ◌-◌, ◌<◌, ◌==◌, ◌^◌, ◌||◌, ◌↔◌, ◌∷◌, ◌≡◌, ◌≤◌, ◌⊎◌}
 pub use Rattle.std.specs.Set.{distinct_count, is_member}
 unfoldable pub use Rattle.std.specs.List.{IsDistinct}

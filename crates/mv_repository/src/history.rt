@@ -1,7 +1,6 @@
 //! What decides one pack, lent from a repository, and whether two have the same.
 
-ghost use Rattle.std.specs.Prelude.{◌≡◌, ◌↔◌};
-ghost use Rattle.mv_repository.specs.Clauses.{IsTrue, YieldsFirstRef, as_sent, entry_at, entry_of, history_at, item_count, map, option_and_then, option_copied, option_map, sent_in, sent_status};
+ghost use Rattle.mv_repository.specs.Clauses.{◌≡◌, ◌↔◌, IsTrue, YieldsFirstRef, as_sent, entry_at, entry_of, history_at, item_count, map, option_and_then, option_copied, option_map, sent_in, sent_status};
 
 use crate::LogEntry;
 use crate::entry::is_before;

@@ -1,5 +1,4 @@
-use Rattle.std.specs.Prelude.{◌≡◌, ◌+◌}
-use Rattle.mv_repository.proofs.Words.{BLOCK}
+use Rattle.mv_repository.proofs.Words.{◌≡◌, ◌+◌, BLOCK}
 use Rattle.mv_repository.proofs.blocks.block_size.Given as goal
 
 -- so many more are counted

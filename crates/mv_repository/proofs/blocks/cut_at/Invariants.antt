@@ -1,5 +1,4 @@
-use Rattle.std.specs.Prelude.{◌≤◌, ◌-◌}
-use Rattle.mv_repository.proofs.Words.{ℕ, List, length, AreBlocks, IsCut, entry_in, next_in, start_in}
+use Rattle.mv_repository.proofs.Words.{◌≤◌, ◌-◌, ℕ, List, length, AreBlocks, IsCut, entry_in, next_in, start_in}
 use Rattle.mv_repository.proofs.blocks.cut_at.Given as goal
 
 -- the blocks so far end at the cut

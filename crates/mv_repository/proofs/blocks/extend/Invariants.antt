@@ -1,5 +1,4 @@
-use Rattle.std.specs.Prelude.{◌≡◌}
-use Rattle.mv_repository.proofs.Words.{ℕ, List, fold, length, IsFront, entry_in, next_in, start_in}
+use Rattle.mv_repository.proofs.Words.{◌≡◌, ℕ, List, fold, length, IsFront, entry_in, next_in, start_in}
 use Rattle.mv_repository.proofs.blocks.extend.Given as goal
 
 -- the blocks so far are right, in front of the rest

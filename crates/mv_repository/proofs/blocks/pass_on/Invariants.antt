@@ -1,5 +1,4 @@
-use Rattle.std.specs.Prelude.{◌≡◌}
-use Rattle.mv_repository.proofs.Words.{List, ℕ, fold, length, take, drop, AreBlocks, IsFront, entry_in, next_in, start_in}
+use Rattle.mv_repository.proofs.Words.{◌≡◌, List, ℕ, fold, length, take, drop, AreBlocks, IsFront, entry_in, next_in, start_in}
 use Rattle.mv_repository.proofs.blocks.pass_on.Given as goal
 
 -- the blocks so far are right, in front of the rest; the others are as they were

@@ -1,5 +1,4 @@
-use Rattle.std.specs.Prelude.{◌≡◌, ◌↔◌, ◌+◌}
-use Rattle.mv_repository.proofs.Words.{map, length, ℕ, List, Places, SentStatus, history_at, sent_status, entry_at}
+use Rattle.mv_repository.proofs.Words.{◌≡◌, ◌↔◌, ◌+◌, map, length, ℕ, List, Places, SentStatus, history_at, sent_status, entry_at}
 use Rattle.mv_repository.proofs.history.have_same_statuses.Given as goal
 
 -- these statuses as they were sent

@@ -1,6 +1,5 @@
 -- The set of the batch has the number, and all that it had.
-use Rattle.std.specs.Prelude.{◌≡◌}
-use Rattle.mv_repository.proofs.Words.{ℕ, List, HashSet, IfSome, Some, arith, bytes_eq, cond, has_number, is_in, lookup, nat_tests, rules, same_text, true}
+use Rattle.mv_repository.proofs.Words.{◌≡◌, ℕ, List, HashSet, IfSome, Some, arith, bytes_eq, cond, has_number, is_in, lookup, nat_tests, rules, same_text, true}
 use Rattle.mv_repository.proofs.listing.add_to.Goals as goal
 
 -- a set is written under a batch, which has all that was there

@@ -1,5 +1,4 @@
-use Rattle.std.specs.Prelude.{◌≡◌}
-use Rattle.mv_repository.proofs.Words.{ℕ, length, get_or, nat_lt, take, has_number, IsRefreshed, nothing_kept, stops_in}
+use Rattle.mv_repository.proofs.Words.{◌≡◌, ℕ, length, get_or, nat_lt, take, has_number, IsRefreshed, nothing_kept, stops_in}
 use Rattle.mv_repository.proofs.shelf.refresh_stopped.Given as goal
 
 -- those so far are worked out

@@ -1,5 +1,4 @@
-use Rattle.std.specs.Prelude.{◌≡◌}
-use Rattle.mv_repository.proofs.Words.{length, items_from}
+use Rattle.mv_repository.proofs.Words.{◌≡◌, length, items_from}
 use Rattle.mv_repository.proofs.entry.FromSenderIterator.next.Given as goal
 
 -- the entries that were passed are of other parties

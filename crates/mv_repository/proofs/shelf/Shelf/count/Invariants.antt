@@ -1,5 +1,4 @@
-use Rattle.std.specs.Prelude.{◌≡◌, ◌+◌, ◌≤◌}
-use Rattle.mv_repository.proofs.Words.{length, slots_counted}
+use Rattle.mv_repository.proofs.Words.{◌≡◌, ◌+◌, ◌≤◌, length, slots_counted}
 use Rattle.mv_repository.proofs.shelf.Shelf.count.Given as goal
 
 -- with those of the slots that are left all are counted

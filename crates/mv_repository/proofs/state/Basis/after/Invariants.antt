@@ -1,5 +1,4 @@
-use Rattle.std.specs.Prelude.{◌≡◌}
-use Rattle.mv_repository.proofs.Words.{fold, take, next_in}
+use Rattle.mv_repository.proofs.Words.{◌≡◌, fold, take, next_in}
 use Rattle.mv_repository.proofs.state.Basis.after.Given as goal
 
 -- the statuses so far are gone through

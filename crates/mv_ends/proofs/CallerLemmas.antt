@@ -1,6 +1,5 @@
 -- The ends of one opening stay such: what the proofs of other crates cite of the ends.
-use Rattle.std.proofs.Common.{◌≡◌, ◌∙◌, ◌<◌, ℕ, List, length, map, get_or, set, refl, sym, ap, subst, arith}
-use Rattle.mv_ends.proofs.Words.{get_or-map, length-map, HubSeat, RepoEnd, hub_seat, repo_seat, SameRepoEnd, IsSeatOf}
+use Rattle.mv_ends.proofs.Words.{◌≡◌, ◌∙◌, ◌<◌, ℕ, List, length, map, get_or, set, refl, sym, ap, subst, arith, get_or-map, length-map, HubSeat, RepoEnd, hub_seat, repo_seat, SameRepoEnd, IsSeatOf}
 use Rattle.mv_ends.specs.Laws.{AreSameRepos, EndsStayEnds, IsSameByOne}
 use Rattle.mv_ends.proofs.RingLemmas.{shows_same}
 

@@ -1,6 +1,5 @@
 -- What the ends keep while their lists grow.
-use Rattle.std.proofs.Common.{◌≡◌, ◌≤◌, ◌<◌, ◌+◌, ℕ, List, [], ◌∷◌, ◌++◌, length, arith, true, append-nil, length-append, None, Err}
-use Rattle.mv_ends.proofs.Words.{get_or-set_same, get_or-set_other, Message, Item, Frame, IsFrameOf, routed_count, is_open, FailsBy, Refused, route_refusal_of, HubState, items_on, close_fault, nat_tests, IsLawfulRecord, stamps_suffice, record-entered, slice_get-append, cell, put-each_pair, HubEnd, IsUnchanged, Routes, IsFront, with_item, with_frame, TookAll, AreOfLinks, AreWithin}
+use Rattle.mv_ends.proofs.Words.{◌≡◌, ◌≤◌, ◌<◌, ◌+◌, ℕ, List, [], ◌∷◌, ◌++◌, length, arith, true, append-nil, length-append, None, Err, get_or-set_same, get_or-set_other, Message, Item, Frame, IsFrameOf, routed_count, is_open, FailsBy, Refused, route_refusal_of, HubState, items_on, close_fault, nat_tests, IsLawfulRecord, stamps_suffice, record-entered, slice_get-append, cell, put-each_pair, HubEnd, IsUnchanged, Routes, IsFront, with_item, with_frame, TookAll, AreOfLinks, AreWithin}
 use Rattle.std.specs.List.{All}
 use Rattle.std.proofs.lemmas.List.Elements.{All-push}
 use Rattle.mv_link.specs.declared.limits.TheConstants.{PARTIES_LIMIT, NUMBER_LIMIT}

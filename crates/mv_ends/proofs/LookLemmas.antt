@@ -1,6 +1,5 @@
 -- What is seen of the ends beside one another.
-use Rattle.std.proofs.Common.{◌≡◌, ◌<◌, ℕ, List, length, get_or, sym, ap, subst, All}
-use Rattle.mv_ends.proofs.Words.{IsPrefix, Item, Frame, IsFrameOf, accepted, accepted_front, items_from, All-front, HubEnd, RepoEnd, HubSeat, SiteState, hub_seat, repo_seat, IsSeatOf, AreEnds}
+use Rattle.mv_ends.proofs.Words.{◌≡◌, ◌<◌, ℕ, List, length, get_or, sym, ap, subst, All, IsPrefix, Item, Frame, IsFrameOf, accepted, accepted_front, items_from, All-front, HubEnd, RepoEnd, HubSeat, SiteState, hub_seat, repo_seat, IsSeatOf, AreEnds}
 use Rattle.mv_repository.specs.declared.entry.LogEntry.{LogEntry}
 
 -- what was applied is a front of each list whose frames were put, where what was taken is a front of what was put

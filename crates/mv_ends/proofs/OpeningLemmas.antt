@@ -1,6 +1,5 @@
 -- Lists of ends that are opened together.
-use Rattle.std.proofs.Common.{◌≡◌, ◌∙◌, ◌<◌, ◌+◌, ℕ, List, [], ◌∷◌, ◌++◌, length, map, get_or, replicate, sym, ap, subst, arith}
-use Rattle.mv_ends.proofs.Words.{IsSquare, common_steps, nat_tests, Global, Vec, sent, received, producer_capacity, Message, Frame, SiteState, new_hub, new_site, opening, HubEnd, RepoEnd, HubSeat, Inlet, Outlet, each_row, ring_put, ring_taken, inflow_of, table_of, repo_seat, IsSeatOf, AreEmpty, AreEnds, IsOpened, AreLinks, sites_of, state_of, map-append, length-map}
+use Rattle.mv_ends.proofs.Words.{◌≡◌, ◌∙◌, ◌<◌, ◌+◌, ℕ, List, [], ◌∷◌, ◌++◌, length, map, get_or, replicate, sym, ap, subst, arith, IsSquare, common_steps, nat_tests, Global, Vec, sent, received, producer_capacity, Message, Frame, SiteState, new_hub, new_site, opening, HubEnd, RepoEnd, HubSeat, Inlet, Outlet, each_row, ring_put, ring_taken, inflow_of, table_of, repo_seat, IsSeatOf, AreEmpty, AreEnds, IsOpened, AreLinks, sites_of, state_of, map-append, length-map}
 use Rattle.mv_machine.specs.Limits.{Bounds}
 use Rattle.std.specs.List.{range_with_len}
 use Rattle.std.proofs.Math.ListN.{get_or-append}

@@ -1,7 +1,6 @@
 -- What an outcome shows of its ends, and that the ends of one opening make a lawful one.
 use Rattle.std.proofs.lemmas.Option.{gets}
-use Rattle.std.proofs.Common.{◌≡◌, ◌<◌, ℕ, zero, suc, List, [], ◌∷◌, length, get_or, slice_index_or, set, ◌+◌, inl, inr, sym, ◌∙◌, refl, subst, arith, ltb-true, IsTrue}
-use Rattle.mv_ends.proofs.Words.{nat_tests, length-map, cases_lt, IsSquare, square-replicate, new_site, State, is_party, site_of, opened_site, opening, IsLawful, IsLawfulAt, IsLawfulRecord, IsWellFormed, HeadlineHolds, headline, opening-sound, HubEnd, HubSeat, RepoEnd, SameHubEnd, IsUnchanged, hub_seat, repo_seat, SameRepoEnd, IsRepoUnchanged, IsSeatOf, AreEnds, sites_of, state_of, IsOutcome}
+use Rattle.mv_ends.proofs.Words.{◌≡◌, ◌<◌, ℕ, zero, suc, List, [], ◌∷◌, length, get_or, slice_index_or, set, ◌+◌, inl, inr, sym, ◌∙◌, refl, subst, arith, ltb-true, IsTrue, nat_tests, length-map, cases_lt, IsSquare, square-replicate, new_site, State, is_party, site_of, opened_site, opening, IsLawful, IsLawfulAt, IsLawfulRecord, IsWellFormed, HeadlineHolds, headline, opening-sound, HubEnd, HubSeat, RepoEnd, SameHubEnd, IsUnchanged, hub_seat, repo_seat, SameRepoEnd, IsRepoUnchanged, IsSeatOf, AreEnds, sites_of, state_of, IsOutcome}
 use Rattle.mv_ends.proofs.CallerLemmas.{ends_kept, same_but_one}
 use Rattle.mv_ends.proofs.RingLemmas.{shown_at, shows_same}
 

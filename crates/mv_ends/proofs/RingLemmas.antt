@@ -1,6 +1,5 @@
 -- What ends of rings show as they are called one by one.
-use Rattle.std.proofs.Common.{◌≡◌, ◌<◌, ◌++◌, ◌∷◌, ◌∙◌, ℕ, List, [], length, map, set, get_or, sym, ap, refl, subst, arith}
-use Rattle.mv_ends.proofs.Words.{nat_tests, get_or-map, length-map, length-set, map-set, get_or-set_same, Global, Vec, sent, producer_capacity, consumer_capacity, SameProducer, SameConsumer, IsPair, cell, Frame, Outlet, Inlet, ring_put, ring_taken, each_row, with_item, with_frame}
+use Rattle.mv_ends.proofs.Words.{◌≡◌, ◌<◌, ◌++◌, ◌∷◌, ◌∙◌, ℕ, List, [], length, map, set, get_or, sym, ap, refl, subst, arith, nat_tests, get_or-map, length-map, length-set, map-set, get_or-set_same, Global, Vec, sent, producer_capacity, consumer_capacity, SameProducer, SameConsumer, IsPair, cell, Frame, Outlet, Inlet, ring_put, ring_taken, each_row, with_item, with_frame}
 use Rattle.std.proofs.Math.Seq.{map-set_same}
 
 -- an end is of its ring still

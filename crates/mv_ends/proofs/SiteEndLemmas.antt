@@ -1,6 +1,5 @@
 -- What a repository's end keeps as it takes frames.
-use Rattle.std.proofs.Common.{◌≡◌, ◌<◌, ℕ, List, [], ◌∷◌, ◌++◌, length, arith, true, false, eqb, append-nil, drop, refl, subst, sym, Option, Err}
-use Rattle.mv_ends.proofs.Words.{nat_tests, get_or-set_same, get_or-set_other, sent, Message, Item, Frame, accepted, one_more, items_from, SiteState, FailsBy, Taken, apply_fault, with_taken, Submitted, Refused, Memory, refusal_of, reply_to, RepoEnd, IsFront, with_item, stands_to, AreAccepted, is_full, IsRepoUnchanged, Submits, TakesFrame, Applies}
+use Rattle.mv_ends.proofs.Words.{◌≡◌, ◌<◌, ℕ, List, [], ◌∷◌, ◌++◌, length, arith, true, false, eqb, append-nil, drop, refl, subst, sym, Option, Err, nat_tests, get_or-set_same, get_or-set_other, sent, Message, Item, Frame, accepted, one_more, items_from, SiteState, FailsBy, Taken, apply_fault, with_taken, Submitted, Refused, Memory, refusal_of, reply_to, RepoEnd, IsFront, with_item, stands_to, AreAccepted, is_full, IsRepoUnchanged, Submits, TakesFrame, Applies}
 use Rattle.mv_link.specs.declared.incoming.Look.{Look}
 use Rattle.mv_link.specs.declared.incoming.Look.TheVariants as look
 use Rattle.mv_party.specs.declared.fault.SiteFault.{SiteFault}

@@ -1,6 +1,5 @@
 -- Lemmas on an input that comes in parts.
-use Rattle.std.proofs.Common.{◌≡◌, ℕ, ◌+◌, ◌<◌, ◌≤◌, List, [], ◌∷◌, ◌++◌, ◌≢◌, length, refl, sym, ◌∙◌, ap, subst, arith, append_assoc, append-nil, length-append, rules, inl, inr, Option}
-use Rattle.mv_engine.proofs.Words.{common_steps, nat_tests, strip_last, ServeFault, Line, line_at, line_begun, whole_from, rest_from, lines_from, line_limit, lines_limit, IsUnended, KeepLimits, GotNoReply, AreAnswered, StopsAt, StopsIn, StoppedAt, Memory, TooManyLines, Taken}
+use Rattle.mv_engine.proofs.Words.{◌≡◌, ℕ, ◌+◌, ◌<◌, ◌≤◌, List, [], ◌∷◌, ◌++◌, ◌≢◌, length, refl, sym, ◌∙◌, ap, subst, arith, append_assoc, append-nil, length-append, rules, inl, inr, Option, common_steps, nat_tests, strip_last, ServeFault, Line, line_at, line_begun, whole_from, rest_from, lines_from, line_limit, lines_limit, IsUnended, KeepLimits, GotNoReply, AreAnswered, StopsAt, StopsIn, StoppedAt, Memory, TooManyLines, Taken}
 use Rattle.mv_engine.proofs.PartLemmas.{unended_nil, unended_whole, unended_rest, unended_front}
 use Rattle.mv_engine.proofs.RepliesLemmas.{IsReplies-append, IsReplies-nil}
 

@@ -1,6 +1,5 @@
 -- Lemmas on the bytes that were written.
-use Rattle.std.proofs.Common.{◌≡◌, ℕ, ◌+◌, List, length, take, drop, sym, length-drop, ◌-◌, Option}
-use Rattle.mv_engine.proofs.Words.{Appends, Appends-trans, take-append-drop, WrotePart}
+use Rattle.mv_engine.proofs.Words.{◌≡◌, ℕ, ◌+◌, List, length, take, drop, sym, length-drop, ◌-◌, Option, Appends, Appends-trans, take-append-drop, WrotePart}
 use Rattle.std.proofs.Math.Seq.{take-add, take-length}
 
 -- all from a place on, as a slice has it

@@ -1,6 +1,5 @@
 -- Lemmas on bytes that end no line, and on the place of the first line feed.
-use Rattle.std.proofs.Common.{◌≡◌, ℕ, ◌+◌, ◌-◌, ◌<◌, ◌≤◌, suc, List, [], ◌∷◌, ◌++◌, length, refl, sym, arith, append_assoc, length-append, Some, None, take, drop, get_or, drop-cons, append-nil}
-use Rattle.mv_engine.proofs.Words.{nat_tests, ne_eqb, eq-eqb, common_steps, take-append-drop, length-take-le, LineTooLong, whole_from, rest_from, line_limit, lines_limit, IsUnended, StopsIn}
+use Rattle.mv_engine.proofs.Words.{◌≡◌, ℕ, ◌+◌, ◌-◌, ◌<◌, ◌≤◌, suc, List, [], ◌∷◌, ◌++◌, length, refl, sym, arith, append_assoc, length-append, Some, None, take, drop, get_or, drop-cons, append-nil, nat_tests, ne_eqb, eq-eqb, common_steps, take-append-drop, length-take-le, LineTooLong, whole_from, rest_from, line_limit, lines_limit, IsUnended, StopsIn}
 use Rattle.memchr.specs.Find.{IsFirstByte, is_byte}
 
 -- nothing ends no line

@@ -1,7 +1,6 @@
 -- Lemmas on replies to lines that come in parts.
-use Rattle.std.proofs.Common.{◌≡◌, ℕ, ◌+◌, List, [], ◌∷◌, ◌++◌, ◌≢◌, refl, length, map, take, take_at, sym, subst, append-nil, append_assoc, arith, Bool, true, false, Option, Some, None}
 use Rattle.std.proofs.lemmas.List.Elements.{filter_map-append}
-use Rattle.mv_engine.proofs.Words.{nat_tests, flat_map-append, strip_last, Line, KeepLimits, line_at, unless_empty, AreReplies, IsReplies, said, AreAnswered}
+use Rattle.mv_engine.proofs.Words.{◌≡◌, ℕ, ◌+◌, List, [], ◌∷◌, ◌++◌, ◌≢◌, refl, length, map, take, take_at, sym, subst, append-nil, append_assoc, arith, Bool, true, false, Option, Some, None, nat_tests, flat_map-append, strip_last, Line, KeepLimits, line_at, unless_empty, AreReplies, IsReplies, said, AreAnswered}
 
 -- a line that isn't empty is the one of its piece
 one_line : (number : ℕ) (line : List ℕ) → line ≢ [] → map (line_at number) (unless_empty line) ++ [] ≡ line_at number line ∷ []

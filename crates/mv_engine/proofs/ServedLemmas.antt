@@ -1,6 +1,5 @@
 -- Lemmas on what a run over lines has written.
-use Rattle.std.proofs.Common.{◌≡◌, ℕ, ◌<◌, ◌≤◌, List, [], ◌++◌, length, sym, ◌∙◌, ap, arith, append_assoc, append-nil, length-append, take, subst, Option, Result, OnOk, IfErr}
-use Rattle.mv_engine.proofs.Words.{common_steps, nat_tests, Appends, Consumes, Appends-trans, Consumes-trans, ServeFault, Read, Write, Start, whole_from, rest_from, pieces, unless_empty, Line, line_at, line_limit, lines_limit, WrotePart, GotNoReply, AreAnswered, StoppedAt, WroteAt, Served, EndedAt, Taken, Halted}
+use Rattle.mv_engine.proofs.Words.{◌≡◌, ℕ, ◌<◌, ◌≤◌, List, [], ◌++◌, length, sym, ◌∙◌, ap, arith, append_assoc, append-nil, length-append, take, subst, Option, Result, OnOk, IfErr, common_steps, nat_tests, Appends, Consumes, Appends-trans, Consumes-trans, ServeFault, Read, Write, Start, whole_from, rest_from, pieces, unless_empty, Line, line_at, line_limit, lines_limit, WrotePart, GotNoReply, AreAnswered, StoppedAt, WroteAt, Served, EndedAt, Taken, Halted}
 use Rattle.mv_engine.proofs.InputLemmas.{whole_from-append, answered_more, stopped_later}
 
 -- nothing more was read

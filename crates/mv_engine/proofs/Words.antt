@@ -6,6 +6,7 @@ pub use Rattle.mv_engine.specs.Served.{AreAnswered, EndedAt, Served, StoppedAt, 
 pub use Rattle.mv_engine.specs.Taking.{Halted, Taken}
 pub use Rattle.mv_engine.specs.declared.fault.ServeFault.TheVariants.{LineTooLong, Memory, Read, Start, TooManyLines, Write}
 pub use Rattle.mv_engine.specs.declared.fault.ServeFault.{ServeFault}
+pub use Rattle.std.proofs.Common.{All, Bool, IfErr, List, None, OnOk, Option, Result, Some, [], ap, append-nil, append_assoc, arith, drop, drop-cons, false, get_or, inl, inr, length, length-append, length-drop, map, refl, rules, subst, suc, sym, take, take_at, true, ℕ, ◌++◌, ◌+◌, ◌-◌, ◌<◌, ◌∙◌, ◌∷◌, ◌≡◌, ◌≢◌, ◌≤◌}
 pub use Rattle.std.proofs.KnownBytes.{Appends-kept, Appends-trans, Consumes-kept, Consumes-trans, Consumes-whole}
 pub use Rattle.std.proofs.lemmas.Bool.Decides.{nat_tests}
 pub use Rattle.std.proofs.lemmas.Bool.{cases_eq, eq-eqb, ne_eqb}

@@ -1,6 +1,5 @@
 -- The keys of replies ascend.
-use Rattle.std.proofs.Common.{◌≡◌, ℕ, true, List, [], ◌∷◌, refl, rules, Option, None, Some}
-use Rattle.mv_format.proofs.Words.{Character, LineFault, Members, field_name, keys_of, object}
+use Rattle.mv_format.proofs.Words.{◌≡◌, ℕ, true, List, [], ◌∷◌, refl, rules, Option, None, Some, Character, LineFault, Members, field_name, keys_of, object}
 use Rattle.std.specs.Ordering.{nat_cmp}
 use Rattle.std.specs.Cmp.Lexicographic.{slice_cmp}
 use Rattle.mv_pack.specs.declared.fault.PackFault.{PackFault}

@@ -1,6 +1,5 @@
 -- What stands in the fields of a line: its tokens, and what it asks.
-use Rattle.std.proofs.Common.{◌≡◌, ◌<◌, ◌^◌, ℕ, List, [], ◌∷◌, ◌++◌, length, ap, subst, refl, arith, lt-ltb, Some, Ok, All, Contains, IsUtf8, ◌≢◌}
-use Rattle.mv_format.proofs.Words.{Data, LineField, LineKind, Request, Token, as_object, begin_object, end_object, field_name, get, key, keys_of, kind_at, message_at, names_of, nat_tests, none_unknown, number_at, read_line, read_request, request_at, shape_of, unsigned, whole}
+use Rattle.mv_format.proofs.Words.{◌≡◌, ◌<◌, ◌^◌, ℕ, List, [], ◌∷◌, ◌++◌, length, ap, subst, refl, arith, lt-ltb, Some, Ok, All, Contains, IsUtf8, ◌≢◌, Data, LineField, LineKind, Request, Token, as_object, begin_object, end_object, field_name, get, key, keys_of, kind_at, message_at, names_of, nat_tests, none_unknown, number_at, read_line, read_request, request_at, shape_of, unsigned, whole}
 use Rattle.mv_format.specs.declared.line_part.LineEntry.{LineEntry}
 use Rattle.json.specs.Json.{value}
 use Rattle.json.specs.Lex.{tokens}

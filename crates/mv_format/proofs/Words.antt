@@ -17,4 +17,5 @@ pub use Rattle.mv_json.proofs.ReadsLemmas.{none_unknown, read_is_legal, reads_ba
 pub use Rattle.mv_json.specs.Members.{keys_of}
 pub use Rattle.serde_json.specs.Data.{Data, Items, Members, array, item, no_items, object, string, unsigned}
 pub use Rattle.serde_json.specs.Find.{as_number, as_object, as_str, as_u64, get}
+pub use Rattle.std.proofs.Common.{All, Bool, Contains, Err, IfOk, IsUtf8, List, None, Ok, OnOk, Option, Result, Some, [], ap, append_assoc, arith, cond, drop, flat_map, is_some, length, lt-ltb, map, ok_or, option_and_then, option_map, refl, rules, subst, take, take_all, true, ℕ, ◌++◌, ◌<◌, ◌^◌, ◌∙◌, ◌∷◌, ◌≡◌, ◌≢◌, ◌≤◌}
 pub use Rattle.std.proofs.lemmas.Bool.Decides.{nat_tests}

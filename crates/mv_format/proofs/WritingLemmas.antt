@@ -1,6 +1,5 @@
 -- What is written of a reply's object is its canonical text.
-use Rattle.std.proofs.Common.{◌≡◌, ℕ, ◌≤◌, List, [], ◌∷◌, ◌++◌, refl, ap, map, flat_map, length, take, take_all, ◌∙◌, append_assoc, arith, IfOk, OnOk, Option, Result}
-use Rattle.mv_format.proofs.Words.{Data, Token, array, begin_array, begin_object, end_array, end_object, entry_of, entry_tokens, items_of, key, member_tokens, members_of, members_where, nat_tests, object, tokens_of}
+use Rattle.mv_format.proofs.Words.{◌≡◌, ℕ, ◌≤◌, List, [], ◌∷◌, ◌++◌, refl, ap, map, flat_map, length, take, take_all, ◌∙◌, append_assoc, arith, IfOk, OnOk, Option, Result, Data, Token, array, begin_array, begin_object, end_array, end_object, entry_of, entry_tokens, items_of, key, member_tokens, members_of, members_where, nat_tests, object, tokens_of}
 use Rattle.json.specs.Tree.{items_tokens, members_tokens}
 use Rattle.json.specs.Print.{print}
 use Rattle.serde_json.specs.Written.{items_outline, members_outline, compact_text}

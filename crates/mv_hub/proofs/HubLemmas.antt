@@ -1,6 +1,5 @@
 -- What the hub keeps, through a routing and a relay.
-use Rattle.std.proofs.Common.{◌≡◌, ℕ, ◌+◌, ◌<◌, ◌≤◌, Bool, true, false, ◌&&◌, ◌||◌, not, List, [], ◌∷◌, ◌++◌, length, get_or, set, cond, None, sym, refl, ap, ◌∙◌, arith, inl, inr, append-nil, ◌↔◌, length-set, ◌==◌, nat_lt, find, replicate}
-use Rattle.mv_hub.proofs.Words.{All, Carries, Closed, Entry, HasRoom, HubState, IsKept, IsRouting, IsSquare, Item, Message, PartySet, PushesItems, PushesRow, Routed, Sending, busy_party, cases_eq, cell, cell-map, elements, eq-eqb, find-none_at, find-those, gain_of, gained, get_or-replicate, get_or_default, has_party, is_busy, is_open, is_query, is_reached, is_target, items_on, length-replicate, link_at, link_items, listed-in, nat_tests, new_hub, new_sending, next_items, parties_in, put, put-map, put-read, reach, routed_count, sent_of, sent_table, table-all, with_relayed}
+use Rattle.mv_hub.proofs.Words.{◌≡◌, ℕ, ◌+◌, ◌<◌, ◌≤◌, Bool, true, false, ◌&&◌, ◌||◌, not, List, [], ◌∷◌, ◌++◌, length, get_or, set, cond, None, sym, refl, ap, ◌∙◌, arith, inl, inr, append-nil, ◌↔◌, length-set, ◌==◌, nat_lt, find, replicate, All, Carries, Closed, Entry, HasRoom, HubState, IsKept, IsRouting, IsSquare, Item, Message, PartySet, PushesItems, PushesRow, Routed, Sending, busy_party, cases_eq, cell, cell-map, elements, eq-eqb, find-none_at, find-those, gain_of, gained, get_or-replicate, get_or_default, has_party, is_busy, is_open, is_query, is_reached, is_target, items_on, length-replicate, link_at, link_items, listed-in, nat_tests, new_hub, new_sending, next_items, parties_in, put, put-map, put-read, reach, routed_count, sent_of, sent_table, table-all, with_relayed}
 use mir.Val.{bool_byte}
 use Rattle.mv_link.specs.declared.item.Item.TheVariants.{Receipt, Carried}
 use Rattle.mv_link.specs.declared.limits.TheConstants.{PARTIES_LIMIT}

@@ -1,6 +1,5 @@
 -- Links that gain items.
-use Rattle.std.proofs.Common.{◌≡◌, ℕ, ◌<◌, ◌&&◌, not, true, List, [], ◌∷◌, ◌++◌, cond, replicate, refl, arith, inl, inr, append-nil, ◌==◌}
-use Rattle.mv_hub.proofs.Words.{IsSquare, Item, PartySet, PushesItems, PushesRow, Sending, cases_eq, cell-put_other, cell-put_same, common_steps, eq-eqb, has_party, link_at, ne_eqb, new_sending, put, put-map_same, replicate_more, same_from_push, square-put}
+use Rattle.mv_hub.proofs.Words.{◌≡◌, ℕ, ◌<◌, ◌&&◌, not, true, List, [], ◌∷◌, ◌++◌, cond, replicate, refl, arith, inl, inr, append-nil, ◌==◌, IsSquare, Item, PartySet, PushesItems, PushesRow, Sending, cases_eq, cell-put_other, cell-put_same, common_steps, eq-eqb, has_party, link_at, ne_eqb, new_sending, put, put-map_same, replicate_more, same_from_push, square-put}
 
 -- a link that gains nothing
 pub pushes-none : (link : Sending) → PushesItems [] link link

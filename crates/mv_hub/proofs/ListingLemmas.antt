@@ -1,6 +1,5 @@
 -- Texts, batches and listings: when two are the same, the order of batches, and lists that hold each member once.
-use Rattle.std.proofs.Common.{◌≡◌, true, List, [], ℕ, Bool, false, not, cond, ◌∷◌, ◌++◌, filter, Option, Some, None, ◌↔◌, sym, refl, ap, ◌∙◌, append-nil, arith, nat_eq, rules}
-use Rattle.mv_hub.proofs.Words.{BatchKey, IsAscendingList, Listing, any-filter_same, batch_cmp, bytes_eq-Decides, distinct, filter-append, filter_map, filter_map-append, is_same_batch, is_same_listing, list_any, pointwise}
+use Rattle.mv_hub.proofs.Words.{◌≡◌, true, List, [], ℕ, Bool, false, not, cond, ◌∷◌, ◌++◌, filter, Option, Some, None, ◌↔◌, sym, refl, ap, ◌∙◌, append-nil, arith, nat_eq, rules, BatchKey, IsAscendingList, Listing, any-filter_same, batch_cmp, bytes_eq-Decides, distinct, filter-append, filter_map, filter_map-append, is_same_batch, is_same_listing, list_any, pointwise}
 use Rattle.std.specs.Cmp.{IsEquivalence, IsTotalOrder}
 use Rattle.std.specs.Ordering.{eq_by_cmp}
 use Rattle.mv_pack.specs.contracts.key.BatchKeyEq.TheImpl.Laws as equal

@@ -1,6 +1,5 @@
 -- What one more entry at the end of a record changes.
-use Rattle.std.proofs.Common.{◌≡◌, ℕ, ◌&&◌, false, List, [], ◌∷◌, ◌++◌, eqb, refl, append_assoc, append-nil, arith}
-use Rattle.mv_hub.proofs.Words.{Closed, Entry, Message, Routed, gained, is_open, link_items, link_items_after, routed_from}
+use Rattle.mv_hub.proofs.Words.{◌≡◌, ℕ, ◌&&◌, false, List, [], ◌∷◌, ◌++◌, eqb, refl, append_assoc, append-nil, arith, Closed, Entry, Message, Routed, gained, is_open, link_items, link_items_after, routed_from}
 
 pub routed_from-append : (before after : List Entry) (party : ℕ) → routed_from (before ++ after) party ≡ routed_from before party ++ routed_from after party
 routed_from-append [] after party = refl

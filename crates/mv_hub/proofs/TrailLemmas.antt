@@ -1,9 +1,8 @@
 -- What one more entry changes in what the record says of products and batches.
-use Rattle.std.proofs.Common.{◌≡◌, ℕ, List, [], ◌∷◌, ◌++◌, Option, Some, None, refl, arith, option_to_list, unwrap_or, rules, cond, append-nil}
 use Rattle.std.specs.Map.{lookup}
 use Rattle.std.specs.declared.alloc.Global.{Global}
 use Rattle.std.specs.declared.vec.Vec.{Vec}
-use Rattle.mv_hub.proofs.Words.{AreTables, BatchKey, Entry, LinkTable, Listing, catalogue_after, catalogue_in, filter_map-append, is_same_batch, is_same_listing, last_or, last_product, link_in, linked_in, linked_to, listing_equiv, no_catalogue, option_or, product_in}
+use Rattle.mv_hub.proofs.Words.{◌≡◌, ℕ, List, [], ◌∷◌, ◌++◌, Option, Some, None, refl, arith, option_to_list, unwrap_or, rules, cond, append-nil, AreTables, BatchKey, Entry, LinkTable, Listing, catalogue_after, catalogue_in, filter_map-append, is_same_batch, is_same_listing, last_or, last_product, link_in, linked_in, linked_to, listing_equiv, no_catalogue, option_or, product_in}
 use Rattle.mv_message.specs.declared.message.Product.{Product}
 use Rattle.mv_hub.specs.declared.catalogue.Catalogue.{Catalogue}
 use Rattle.mv_hub.specs.Catalogue.{listing_in, batches_of}

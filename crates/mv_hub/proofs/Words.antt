@@ -17,6 +17,7 @@ unfoldable pub use Rattle.mv_hub.specs.Targets.{is_reached, reach}
 pub use Rattle.mv_link.proofs.CallerLemmas.{find-none_at, find-those, listed-in}
 pub use Rattle.mv_link.specs.declared.party_set.PartySet.{PartySet}
 pub use Rattle.mv_pairs.proofs.CallerLemmas.{cell-map, cell-put_other, cell-put_same, put-map, put-map_same, put-read, square-map, square-put, table-all}
+pub use Rattle.std.proofs.Common.{Bool, Contains, List, None, Option, Some, [], ap, append-nil, append_assoc, arith, bytes_eq, cond, drop, eqb, false, filter, find, get_or, inl, inr, length, length-append, length-set, map, nat_eq, nat_lt, not, option_to_list, refl, replicate, rules, set, subst, suc, sym, take, take_all, true, true≢false, unwrap_or, zero, ℕ, ◌&&◌, ◌++◌, ◌+◌, ◌-◌, ◌<◌, ◌==◌, ◌||◌, ◌↔◌, ◌∙◌, ◌∷◌, ◌≡◌, ◌≢◌, ◌≤◌, ◌⊎◌}
 pub use Rattle.std.proofs.lemmas.Bool.{and_parts, cases_eq, cases_lt, eq-eqb, ne_eqb}
 pub use Rattle.std.proofs.lemmas.Bool.Decides.{nat_tests}
 pub use Rattle.std.proofs.lemmas.Grind.{common_steps, elements}

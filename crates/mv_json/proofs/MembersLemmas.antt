@@ -1,6 +1,5 @@
 -- Keys of objects.
-use Rattle.std.proofs.Common.{◌≡◌, ℕ, not, map, List, [], ◌∷◌, refl, arith, bytes_eq, option_map, find, String, string_bytes}
-use Rattle.mv_json.proofs.Words.{Value, first_unknown, list_any, members_view}
+use Rattle.mv_json.proofs.Words.{◌≡◌, ℕ, not, map, List, [], ◌∷◌, refl, arith, bytes_eq, option_map, find, String, string_bytes, Value, first_unknown, list_any, members_view}
 use Rattle.std.specs.declared.alloc.Global.{Global}
 
 -- the first unknown key of a map is that of its members

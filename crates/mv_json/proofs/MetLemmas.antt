@@ -1,6 +1,5 @@
 -- Fields of an object that are met in any order: its tokens are its members, one after the other.
-use Rattle.std.proofs.Common.{◌≡◌, ◌∙◌, ◌≤◌, ◌<◌, ◌-◌, ℕ, suc, List, [], ◌∷◌, ◌++◌, length, map, ap, sym, subst, refl, arith, Option, Some, All, Contains, ◌≢◌}
-use Rattle.mv_json.proofs.Words.{All-append, All-cons, All-contains, All-map, All-nil, AllByRecursion, BeginWith, Contains-append_left, Contains-append_right, Data, HasMet, HasOnly, IsOneOf, Members, Token, begin_object, converted, end_object, get, get_member, get_or-map, key, keys_of, left, length-map, map-append, member, members, members_end, members_more, no_members, number, number_of, object, of_json, of_members, parse_map, put, skip_value-shorter, string, unsigned, value, value-begin_object, value_is}
+use Rattle.mv_json.proofs.Words.{◌≡◌, ◌∙◌, ◌≤◌, ◌<◌, ◌-◌, ℕ, suc, List, [], ◌∷◌, ◌++◌, length, map, ap, sym, subst, refl, arith, Option, Some, All, Contains, ◌≢◌, All-append, All-cons, All-contains, All-map, All-nil, AllByRecursion, BeginWith, Contains-append_left, Contains-append_right, Data, HasMet, HasOnly, IsOneOf, Members, Token, begin_object, converted, end_object, get, get_member, get_or-map, key, keys_of, left, length-map, map-append, member, members, members_end, members_more, no_members, number, number_of, object, of_json, of_members, parse_map, put, skip_value-shorter, string, unsigned, value, value-begin_object, value_is}
 use Rattle.serde_json.proofs.Views.{get_member-put, get_member-put_other}
 use Rattle.json.specs.Json as json
 use Rattle.json.specs.Token as token

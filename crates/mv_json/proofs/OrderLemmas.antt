@@ -1,6 +1,5 @@
 -- Lists that are sorted, by computing.
-use Rattle.std.proofs.Common.{◌≡◌, true, ◌&&◌, Bool, List, [], ◌∷◌, arith}
-use Rattle.mv_json.proofs.Words.{AllByRecursion, IsStrictlySortedBy, Less, Ordering, is_lt, list_all}
+use Rattle.mv_json.proofs.Words.{◌≡◌, true, ◌&&◌, Bool, List, [], ◌∷◌, arith, AllByRecursion, IsStrictlySortedBy, Less, Ordering, is_lt, list_all}
 use Rattle.std.proofs.lemmas.Bool.{and_parts}
 
 is_less : (order : Ordering) → is_lt order ≡ true → order ≡ Less

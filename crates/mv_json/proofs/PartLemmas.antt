@@ -1,11 +1,10 @@
 -- What stands in the fields of a message: its tokens, and what is read of it.
-use Rattle.mv_json.proofs.Words.{All-map, All-set, AllByRecursion, BeginWith, BeginWithMessage, BeginWithPart, BeginWithTexts, Data, Entry, Field, HasEntries, IsCode, IsMarket, IsPart, IsPlace, IsTaken, IsThere, Message, PackFault, StartWithPart, Token, array, as_bool, as_null, as_str, begin_array, converted, deep_in, end_array, entry, entry_name, field_name, get, items, key, keys_of, list_at, most_markets, most_serials, null, of_items, of_json, read_bytes, read_code, read_market, string, strings, there, tokens, value, value-begin_array, value_is, whole, whole_number}
+use Rattle.mv_json.proofs.Words.{◌≡◌, ◌∙◌, ℕ, Bool, true, false, List, [], ◌∷◌, ◌++◌, length, map, set, ap, sym, subst, refl, arith, Option, Some, None, Result, Ok, All, Contains, is_some, IsUtf8, ◌≢◌, All-map, All-set, AllByRecursion, BeginWith, BeginWithMessage, BeginWithPart, BeginWithTexts, Data, Entry, Field, HasEntries, IsCode, IsMarket, IsPart, IsPlace, IsTaken, IsThere, Message, PackFault, StartWithPart, Token, array, as_bool, as_null, as_str, begin_array, converted, deep_in, end_array, entry, entry_name, field_name, get, items, key, keys_of, list_at, most_markets, most_serials, null, of_items, of_json, read_bytes, read_code, read_market, string, strings, there, tokens, value, value-begin_array, value_is, whole, whole_number}
 use Rattle.mv_json.proofs.MetLemmas.{AreMet, one_more_met, weaker, text_begins, whole_begins}
 use Rattle.mv_json.proofs.ReadingLemmas.{none_named, Inverts, codes_inverted, markets_inverted, list_tells}
 use Rattle.mv_json.proofs.ValueLemmas.{utf8_test}
 use Rattle.mv_json.specs.declared.object.Place.{Place}
 use Rattle.mv_json.specs.declared.part.Part.{Part}
-use Rattle.std.proofs.Common.{◌≡◌, ◌∙◌, ℕ, Bool, true, false, List, [], ◌∷◌, ◌++◌, length, map, set, ap, sym, subst, refl, arith, Option, Some, None, Result, Ok, All, Contains, is_some, IsUtf8, ◌≢◌}
 use Rattle.std.proofs.Math.Seq.{map-set_same}
 use Rattle.json.specs.Json as json
 use Rattle.json.specs.Token as token

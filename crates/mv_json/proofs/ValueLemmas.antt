@@ -1,5 +1,5 @@
 -- The values of messages: how deep they nest, their keys in byte order, and their canonical text, which is read as them.
-use Rattle.mv_json.proofs.Words.{Data, Found, HasWords, IsLegal, IsUtf8-from_is_utf8, Message, One, PackKey, Two, Version, compact_text, found_value, found_version, is_utf8-from_IsUtf8, item, items_outline, max_depth, of_items, of_json, outline, print-outline, read, read_bytes, string, strings, tokens, tokens_of, value_in, value_of}
+use Rattle.mv_json.proofs.Words.{◌≡◌, ◌≤◌, ℕ, sym, arith, rules, true, List, [], ◌∷◌, ap, refl, ◌∙◌, ◌<◌, ◌^◌, max, append-nil, option_map, IsUtf8, Some, None, Ok, Data, Found, HasWords, IsLegal, IsUtf8-from_is_utf8, Message, One, PackKey, Two, Version, compact_text, found_value, found_version, is_utf8-from_IsUtf8, item, items_outline, max_depth, of_items, of_json, outline, print-outline, read, read_bytes, string, strings, tokens, tokens_of, value_in, value_of}
 use Rattle.json.proofs.Printed.Decimals.{IsNumber-decimal}
 use Rattle.json.proofs.Printed.Tokens.{tokens-print}
 use Rattle.json.proofs.Printed.Trees.{value-json_tokens, ArePrintable-json_tokens}
@@ -7,7 +7,6 @@ use Rattle.mv_json.proofs.OrderLemmas.{rises, strictly_sorted}
 use Rattle.mv_json.proofs.ReadsLemmas.{reads_back}
 use Rattle.mv_json.specs.Keys.{KeysAscend, ItemsKeysAscend}
 use Rattle.serde_json.proofs.Numbers.{number_of-decimal}
-use Rattle.std.proofs.Common.{◌≡◌, ◌≤◌, ℕ, sym, arith, rules, true, List, [], ◌∷◌, ap, refl, ◌∙◌, ◌<◌, ◌^◌, max, append-nil, option_map, IsUtf8, Some, None, Ok}
 use Rattle.std.specs.Str.{is_utf8}
 use Rattle.json.specs.Tree as tree
 use Rattle.mv_message.specs.declared.message.Message.TheVariants as messages

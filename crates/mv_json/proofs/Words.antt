@@ -37,11 +37,13 @@ pub use Rattle.serde_json.specs.Find.{as_array, as_bool, as_null, as_str, get, g
 pub use Rattle.serde_json.specs.Read.{converted, max_depth, number_of, of_items, of_json, of_members, read}
 pub use Rattle.serde_json.specs.Written.{compact_text, items_outline, members_outline, outline}
 pub use Rattle.serde_json.specs.declared.value.Value.{Value}
+pub use Rattle.std.proofs.Common.{All, Bool, Contains, Err, IfSome, IsUtf8, List, None, Ok, Option, Result, Some, String, [], ap, append-nil, append_assoc, arith, bytes_eq, cond, drop, false, find, is_some, length, map, max, not, option_map, refl, rules, set, string_bytes, subst, suc, sym, take, true, vec_capacity, vec_len, ℕ, ◌&&◌, ◌++◌, ◌-◌, ◌<◌, ◌^◌, ◌∙◌, ◌∷◌, ◌≡◌, ◌≢◌, ◌≤◌}
 pub use Rattle.std.proofs.lemmas.List.{get_or-map, length-map, map-append, take_all}
 pub use Rattle.std.proofs.lemmas.List.Elements.{All-append, All-cons, All-contains, All-map, All-nil, All-set, Contains-append_left, Contains-append_right}
 pub use Rattle.std.proofs.lemmas.Str.{IsUtf8-from_is_utf8, IsUtf8-string_bytes, is_utf8-from_IsUtf8}
 unfoldable pub use Rattle.std.specs.List.Sorted.{IsStrictlySortedBy}
 pub use Rattle.std.specs.Ordering.{is_eq, is_lt, match_ordering, nat_cmp}
+pub use Rattle.std.specs.Prelude.{⊤}
 pub use Rattle.std.specs.declared.alloc.AllocError.{AllocError}
 pub use Rattle.std.specs.declared.cmp.Ordering.{Ordering}
 pub use Rattle.std.specs.declared.cmp.Ordering.TheVariants.{Less}

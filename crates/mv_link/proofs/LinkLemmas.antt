@@ -1,6 +1,5 @@
 -- Lemmas on links.
-use Rattle.std.proofs.Common.{◌≡◌, ℕ, ◌+◌, ◌-◌, List, [], ◌∷◌, ◌++◌, length, take, drop, refl, sym, ◌∙◌, ap, arith, append_assoc, append-nil, length-append, Bool, true, false, cond, drop-cons, Some, slice_get, All, ◌==◌}
-use Rattle.mv_link.proofs.Words.{All-tail, eqb-true, nat_tests}
+use Rattle.mv_link.proofs.Words.{◌≡◌, ℕ, ◌+◌, ◌-◌, List, [], ◌∷◌, ◌++◌, length, take, drop, refl, sym, ◌∙◌, ap, arith, append_assoc, append-nil, length-append, Bool, true, false, cond, drop-cons, Some, slice_get, All, ◌==◌, All-tail, eqb-true, nat_tests}
 use Rattle.std.proofs.lemmas.List.{take-append-drop}
 use Rattle.std.proofs.lemmas.Grind.{common_steps}
 use Rattle.std.proofs.lemmas.Option.{gets, slice_get_within}

@@ -1,6 +1,5 @@
 -- Searches and filters over the numbers below a count.
-use Rattle.std.proofs.Common.{◌≡◌, ℕ, zero, suc, ◌+◌, ◌-◌, ◌<◌, ◌≤◌, Bool, true, false, not, ◌&&◌, List, [], ◌∷◌, ◌++◌, None, inl, inr, refl, ap, arith, zero-add, append-nil, filter, find, ◌==◌}
-use Rattle.mv_link.proofs.Words.{IsStrictlyIncreasing, cases_eq, eq-eqb, filter-append, get_or-range_with_len, length-range_with_len, ne_eqb, range_with_len, those}
+use Rattle.mv_link.proofs.Words.{◌≡◌, ℕ, zero, suc, ◌+◌, ◌-◌, ◌<◌, ◌≤◌, Bool, true, false, not, ◌&&◌, List, [], ◌∷◌, ◌++◌, None, inl, inr, refl, ap, arith, zero-add, append-nil, filter, find, ◌==◌, IsStrictlyIncreasing, cases_eq, eq-eqb, filter-append, get_or-range_with_len, length-range_with_len, ne_eqb, range_with_len, those}
 use Rattle.std.proofs.lemmas.List.Kept.{IsStrictlyIncreasing-filter}
 
 -- so many numbers, and then more

@@ -1,6 +1,5 @@
 -- Sets of parties, by the bits of their words.
-use Rattle.std.proofs.Common.{◌≡◌, ℕ, ◌-◌, ◌*◌, ◌^◌, ◌/◌, ◌%◌, ◌<◌, ◌≤◌, min, max, Bool, true, false, not, ◌&&◌, ◌||◌, [], ◌∷◌, length, w64, bit_and, bit_or, refl, arith, inl, inr, ◌==◌}
-use Rattle.mv_link.proofs.Words.{IsStrictlyIncreasing, cases_eq, cases_lt, eq-eqb, has_party, length-range_with_len, nat_tests, parties_in, range_with_len, those}
+use Rattle.mv_link.proofs.Words.{◌≡◌, ℕ, ◌-◌, ◌*◌, ◌^◌, ◌/◌, ◌%◌, ◌<◌, ◌≤◌, min, max, Bool, true, false, not, ◌&&◌, ◌||◌, [], ◌∷◌, length, w64, bit_and, bit_or, refl, arith, inl, inr, ◌==◌, IsStrictlyIncreasing, cases_eq, cases_lt, eq-eqb, has_party, length-range_with_len, nat_tests, parties_in, range_with_len, those}
 use Rattle.std.specs.Int.{bit_at, trailing_zeros}
 use Rattle.std.proofs.lemmas.Nat.{and_le_l}
 use Rattle.std.proofs.lemmas.Nat.Bits.{bit_at-lt, bit_at-zero, bit_at_and, bit_at_or, bit_at_above, bit_at_set_same, bit_at_set_other, bit_at_clear_same, bit_at_clear_other, bit_at-trailing_zeros, bit_at_ones, shr_and_one}

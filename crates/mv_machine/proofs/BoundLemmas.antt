@@ -1,7 +1,6 @@
 -- How long the record can grow: each sender routes what it submitted, and each link is closed at most once.
-use Rattle.std.proofs.Common.{◌≡◌, ℕ, zero, suc, ◌+◌, ◌*◌, ◌<◌, ◌≤◌, List, [], ◌∷◌, ◌++◌, length, take, length-append, cond, Some, refl, ap, ◌∙◌, subst, append_assoc, append-nil, arith, slice_get}
 use Rattle.std.proofs.Math.Nat.{mul-le-mul_left}
-use Rattle.mv_machine.proofs.Words.{Closed, Entry, Fits, IsLawful, Message, NumbersSuffice, Routed, StampsSuffice, State, cases_eq, eq-eqb, gained, is_busy, is_open, is_open-append, items_on, le-ltb, link_items, link_items_after, routed_count, routed_from, routed_from-append, submissions_of}
+use Rattle.mv_machine.proofs.Words.{◌≡◌, ℕ, zero, suc, ◌+◌, ◌*◌, ◌<◌, ◌≤◌, List, [], ◌∷◌, ◌++◌, length, take, length-append, cond, Some, refl, ap, ◌∙◌, subst, append_assoc, append-nil, arith, slice_get, Closed, Entry, Fits, IsLawful, Message, NumbersSuffice, Routed, StampsSuffice, State, cases_eq, eq-eqb, gained, is_busy, is_open, is_open-append, items_on, le-ltb, link_items, link_items_after, routed_count, routed_from, routed_from-append, submissions_of}
 use Rattle.mv_party.specs.declared.limits.TheConstants.{SUBMISSIONS_LIMIT}
 
 pub routed_count-push : (before after : List Entry) (party : ℕ) → routed_count (before ++ after) party ≡ routed_count before party + routed_count after party

@@ -1,7 +1,6 @@
 -- Nothing that is routed after the closing of a link goes over it, and the record only grows.
-use Rattle.std.proofs.Common.{◌≡◌, ℕ, zero, suc, ◌+◌, ◌≤◌, true, false, List, [], ◌∷◌, ◌++◌, take, cond, Some, refl, append_assoc, append-nil, arith, slice_get}
 use Rattle.std.proofs.lemmas.List.Sums.{take_while-cons}
-use Rattle.mv_machine.proofs.Words.{Entry, Follows, IsLawful, Message, Reply, Routed, Runs, State, Step, is_open, items_from, log_of, number_of, routed_count}
+use Rattle.mv_machine.proofs.Words.{◌≡◌, ℕ, zero, suc, ◌+◌, ◌≤◌, true, false, List, [], ◌∷◌, ◌++◌, take, cond, Some, refl, append_assoc, append-nil, arith, slice_get, Entry, Follows, IsLawful, Message, Reply, Routed, Runs, State, Step, is_open, items_from, log_of, number_of, routed_count}
 use Rattle.mv_machine.specs.Closing.{before_closing, NothingRoutedLater, NothingSubmittedLater}
 use Rattle.mv_machine.proofs.PutLemmas.{put-each, log-put}
 use Rattle.mv_machine.proofs.BoundLemmas.{routed_count-few}

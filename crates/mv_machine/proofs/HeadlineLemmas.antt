@@ -1,6 +1,5 @@
 -- The headline follows from two lawful states of which one follows the other.
-use Rattle.std.proofs.Common.{arith}
-use Rattle.mv_machine.proofs.Words.{Reply, Step, ClosedLinksStayClosed, Follows, HeadlineHolds, InSteps, IsLawful, IsWellFormed, State}
+use Rattle.mv_machine.proofs.Words.{arith, Reply, Step, ClosedLinksStayClosed, Follows, HeadlineHolds, InSteps, IsLawful, IsWellFormed, State}
 use Rattle.mv_machine.proofs.LawfulLemmas.{change-sound, opening-sound, run-sound}
 use Rattle.mv_machine.proofs.ClosingLemmas.{nothing_routed_later, nothing_submitted_later, follows-same, follows_further, change-follows, run-follows}
 use Rattle.mv_machine.proofs.StampLemmas.{repositories_agree}

@@ -1,7 +1,6 @@
 -- Each step keeps a state well formed and lawful, and so does each run.
 use Rattle.std.proofs.lemmas.Grind.{elements}
-use Rattle.std.proofs.Common.{◌≡◌, ℕ, ◌+◌, ◌<◌, true, List, [], ◌∷◌, ◌++◌, length, Some, refl, ap, ◌∙◌, subst, append-nil, arith, length-set, eqb, eqb-true, slice_get, option_to_list}
-use Rattle.mv_machine.proofs.Words.{Query, Allows, Bounds, Closed, Entry, Fits, InRuns, IsLawful, IsLawfulAt, IsLawfulRecord, IsPrefix, IsWellFormed, Item, Message, Reply, Runs, SiteState, State, Step, answer_to, answers_in, entry_from, gained, get_or-map-range_with_len, is_open, items_from, items_from-push, items_on, length-map, length-range_with_len, link_items-push, log_of, new_hub, new_site, next_entry, opened_site, opening, party-applied, party-submitted, put-each, range_with_len, routed_count, routed_from, routed_from-append, sent_of, site_of, square-put, square-replicate, submissions_of, with_applied, with_closed, with_relayed, with_routed, with_site, with_submission, with_wire}
+use Rattle.mv_machine.proofs.Words.{◌≡◌, ℕ, ◌+◌, ◌<◌, true, List, [], ◌∷◌, ◌++◌, length, Some, refl, ap, ◌∙◌, subst, append-nil, arith, length-set, eqb, eqb-true, slice_get, option_to_list, Query, Allows, Bounds, Closed, Entry, Fits, InRuns, IsLawful, IsLawfulAt, IsLawfulRecord, IsPrefix, IsWellFormed, Item, Message, Reply, Runs, SiteState, State, Step, answer_to, answers_in, entry_from, gained, get_or-map-range_with_len, is_open, items_from, items_from-push, items_on, length-map, length-range_with_len, link_items-push, log_of, new_hub, new_site, next_entry, opened_site, opening, party-applied, party-submitted, put-each, range_with_len, routed_count, routed_from, routed_from-append, sent_of, site_of, square-put, square-replicate, submissions_of, with_applied, with_closed, with_relayed, with_routed, with_site, with_submission, with_wire}
 use Rattle.mv_machine.proofs.PrefixLemmas.{prefix-grows, prefix-maybe, each-push}
 use Rattle.mv_machine.proofs.StepLemmas.{Change, next_item, nothing, submitted, asked, routed, closed, relayed, repeated, dropped, applied, run-keeps}
 

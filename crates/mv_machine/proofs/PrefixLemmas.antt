@@ -1,6 +1,5 @@
 -- Prefixes of lists that grow at their end.
-use Rattle.std.proofs.Common.{◌≡◌, ℕ, zero, suc, Bool, true, List, [], ◌∷◌, ◌++◌, length, take, cond, sym, ap, ◌∙◌, subst, append_assoc, append-nil, arith, All, Some, slice_get}
-use Rattle.mv_machine.proofs.Words.{All-take, IsPrefix, common_steps, gets, take-append_seam}
+use Rattle.mv_machine.proofs.Words.{◌≡◌, ℕ, zero, suc, Bool, true, List, [], ◌∷◌, ◌++◌, length, take, cond, sym, ap, ◌∙◌, subst, append_assoc, append-nil, arith, All, Some, slice_get, All-take, IsPrefix, common_steps, gets, take-append_seam}
 
 -- what is a prefix stays one when the whole grows
 pub prefix-grows : {A : Type 0} (xs ys zs : List A) → IsPrefix xs ys → IsPrefix xs (ys ++ zs)

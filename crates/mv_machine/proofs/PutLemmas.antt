@@ -1,6 +1,5 @@
 -- Which entry of the record put each item on a link: the items of a link are put there in the order of the record.
-use Rattle.std.proofs.Common.{◌≡◌, ℕ, zero, suc, ◌+◌, ◌<◌, ◌≤◌, Bool, true, false, List, [], ◌∷◌, ◌++◌, length, take, cond, eqb, Some, refl, append_assoc, arith, All, slice_get, ◌&&◌, IsTrue, nat_lt}
-use Rattle.mv_machine.proofs.Words.{All-cons, All-nil, Carried, Closed, Entry, Fits, IsLawful, Item, LogEntry, Message, Receipt, Routed, State, and_parts, eqb-true, gained, is_open, items_from, link_items, link_items_after, log_of, number_of, routed_count, take-append_seam}
+use Rattle.mv_machine.proofs.Words.{◌≡◌, ℕ, zero, suc, ◌+◌, ◌<◌, ◌≤◌, Bool, true, false, List, [], ◌∷◌, ◌++◌, length, take, cond, eqb, Some, refl, append_assoc, arith, All, slice_get, ◌&&◌, IsTrue, nat_lt, All-cons, All-nil, Carried, Closed, Entry, Fits, IsLawful, Item, LogEntry, Message, Receipt, Routed, State, and_parts, eqb-true, gained, is_open, items_from, link_items, link_items_after, log_of, number_of, routed_count, take-append_seam}
 use Rattle.mv_hub.specs.Targets.{is_reached, is_target, reach, is_query}
 use Rattle.mv_machine.proofs.PrefixLemmas.{slice_get-behind}
 use Rattle.mv_machine.proofs.BoundLemmas.{AllFit, first-fits, rest-fit, routed_count-push}

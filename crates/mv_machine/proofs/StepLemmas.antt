@@ -1,7 +1,6 @@
 -- What a step changes, and what it has seen to before: one lemma for all that every step keeps.
-use Rattle.std.proofs.Common.{◌≡◌, ℕ, ◌+◌, ◌<◌, ◌≤◌, Bool, true, false, List, [], ◌∷◌, ◌++◌, length, Option, Some, None, refl, sym, subst, arith, slice_get, IsTrue}
 use Rattle.mv_pack.specs.declared.key.PackKey.{PackKey}
-use Rattle.mv_machine.proofs.Words.{Query, Allows, InSteps, Item, answer_to, entry_from, log_of, nat_tests, Meets, Message, Reply, Runs, State, Step, answers_in, apply_fault, ask_fault, is_open, is_uplink_full, items_on, next-number, no_answer, route_fault, routed_count, sent_of, site_of, submissions_of, submit-free, wire_of, with_applied, with_closed, with_relayed, with_routed, with_site, with_submission, with_wire}
+use Rattle.mv_machine.proofs.Words.{◌≡◌, ℕ, ◌+◌, ◌<◌, ◌≤◌, Bool, true, false, List, [], ◌∷◌, ◌++◌, length, Option, Some, None, refl, sym, subst, arith, slice_get, IsTrue, Query, Allows, InSteps, Item, answer_to, entry_from, log_of, nat_tests, Meets, Message, Reply, Runs, State, Step, answers_in, apply_fault, ask_fault, is_open, is_uplink_full, items_on, next-number, no_answer, route_fault, routed_count, sent_of, site_of, submissions_of, submit-free, wire_of, with_applied, with_closed, with_relayed, with_routed, with_site, with_submission, with_wire}
 use Rattle.mv_link.specs.declared.incoming.Look.TheVariants as look
 use Rattle.mv_machine.specs.declared.step.Step.TheVariants.{Submit, Verify, Route, Relay, Apply, Repeat, Close, Lose, Verdict}
 use Rattle.mv_machine.specs.declared.reply.Reply.TheVariants.{Refused, Submitted, Asked, Routed, Closed, Relayed, Repeated, Old, Gap, Lost, Applied}

@@ -29,6 +29,7 @@ pub use Rattle.mv_party.specs.Site.{SiteState, answers_in, entry_from, new_site,
 pub use Rattle.mv_repository.specs.Repository.{items_from}
 pub use Rattle.mv_repository.specs.Verdict.{answer_to}
 pub use Rattle.mv_repository.specs.declared.entry.LogEntry.{LogEntry}
+pub use Rattle.std.proofs.Common.{All, Bool, IsTrue, List, None, Option, Some, [], ap, append-nil, append_assoc, arith, cond, drop, eqb, false, filter, find, get_or, inl, inr, length, length-append, length-set, map, nat_lt, not, option_and_then, option_to_list, refl, slice_get, subst, suc, sym, take, true, zero, ℕ, ◌&&◌, ◌*◌, ◌++◌, ◌+◌, ◌-◌, ◌<◌, ◌∙◌, ◌∷◌, ◌≡◌, ◌≤◌}
 pub use Rattle.std.proofs.Math.Seq.{take-append_seam}
 pub use Rattle.std.proofs.lemmas.Bool.{and_parts, cases_Bool, cases_eq, eq-eqb, eqb-true, le-ltb}
 pub use Rattle.std.proofs.lemmas.Bool.Decides.{nat_tests}

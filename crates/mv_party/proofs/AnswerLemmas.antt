@@ -1,6 +1,5 @@
 -- The answers among what a party submits are those that its repository's log calls for.
-use Rattle.std.proofs.Common.{◌≡◌, ℕ, false, List, [], ◌∷◌, ◌++◌, sym, refl, ap, ◌∙◌, append_assoc, append-nil, arith, option_to_list}
-use Rattle.mv_party.proofs.Words.{Item, LogEntry, Message, answer_after, answer_to, answers_from, answers_in, answers_of, is_query_or_answer}
+use Rattle.mv_party.proofs.Words.{◌≡◌, ℕ, false, List, [], ◌∷◌, ◌++◌, sym, refl, ap, ◌∙◌, append_assoc, append-nil, arith, option_to_list, Item, LogEntry, Message, answer_after, answer_to, answers_from, answers_in, answers_of, is_query_or_answer}
 
 pub answers_in-append : (xs ys : List Message) → answers_in (xs ++ ys) ≡ answers_in xs ++ answers_in ys
 answers_in-append [] ys = refl

@@ -1,6 +1,5 @@
 -- What a party keeps with one more submission, and with one more item of its repository.
-use Rattle.std.proofs.Common.{◌≡◌, ℕ, ◌+◌, ◌<◌, ◌≤◌, ◌≢◌, Bool, false, List, [], ◌∷◌, ◌++◌, length, cond, set, get_or, length-set, eqb, Option, Some, None, Ok, refl, arith, length-append, option_to_list}
-use Rattle.mv_party.proofs.Words.{IsLawfulParty, IsSite, Item, LogEntry, Message, SiteState, answer_fault, answer_to, answers_in, ask_fault, count_from, entry_from, is_query_or_answer, site_of, submit_fault, unless_fault}
+use Rattle.mv_party.proofs.Words.{◌≡◌, ℕ, ◌+◌, ◌<◌, ◌≤◌, ◌≢◌, Bool, false, List, [], ◌∷◌, ◌++◌, length, cond, set, get_or, length-set, eqb, Option, Some, None, Ok, refl, arith, length-append, option_to_list, IsLawfulParty, IsSite, Item, LogEntry, Message, SiteState, answer_fault, answer_to, answers_in, ask_fault, count_from, entry_from, is_query_or_answer, site_of, submit_fault, unless_fault}
 use Rattle.std.specs.List.{AllByRecursion}
 use Rattle.std.proofs.lemmas.Bool.{cases_eq}
 use Rattle.std.proofs.lemmas.Grind.{elements}

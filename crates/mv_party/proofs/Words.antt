@@ -4,3 +4,4 @@ pub use Rattle.mv_party.specs.Calls.{answer_fault, ask_fault, submit_fault, unle
 pub use Rattle.mv_party.specs.Kept.{IsSite, site_of}
 pub use Rattle.mv_party.specs.Site.{IsLawfulParty, SiteState, answers_in, count_from, entry_from}
 pub use Rattle.mv_repository.specs.Verdict.{answer_after, answer_to, answers_from, answers_of}
+pub use Rattle.std.proofs.Common.{Bool, List, None, Ok, Option, Some, [], ap, append-nil, append_assoc, arith, cond, eqb, false, get_or, length, length-append, length-set, option_to_list, refl, set, subst, sym, ℕ, ◌++◌, ◌+◌, ◌<◌, ◌∙◌, ◌∷◌, ◌≡◌, ◌≢◌, ◌≤◌}

@@ -1,7 +1,6 @@
 -- Lemmas on a text that is written in blocks.
 use Rattle.std.proofs.lemmas.Grind.{common_steps, flat_map-append}
-use Rattle.mv_show.proofs.Words.{State, nat_tests, Appends-nil, Appends-trans, Passes, Row, lines_text, link_rows, party_rows}
-use Rattle.std.proofs.Common.{◌≡◌, ℕ, ◌+◌, ◌-◌, ◌<◌, ◌≤◌, List, [], ◌∷◌, ◌++◌, length, ◌∙◌, append_assoc, append-nil, add-one, ap, subst, sym, drop, slice_index_or, take, take_all, arith, flat_map, rules, Option, Result, IfErr}
+use Rattle.mv_show.proofs.Words.{◌≡◌, ℕ, ◌+◌, ◌-◌, ◌<◌, ◌≤◌, List, [], ◌∷◌, ◌++◌, length, ◌∙◌, append_assoc, append-nil, add-one, ap, subst, sym, drop, slice_index_or, take, take_all, arith, flat_map, rules, Option, Result, IfErr, State, nat_tests, Appends-nil, Appends-trans, Passes, Row, lines_text, link_rows, party_rows}
 use Rattle.std.specs.List.{range_with_len}
 use Rattle.std.proofs.lemmas.List.{map-append}
 use Rattle.std.specs.Io.KnownBytes.{Appends}

@@ -1,6 +1,5 @@
 -- Subjects that are noted one after another stand as the list of them that has each once.
-use Rattle.std.proofs.Common.{◌≡◌, List, [], ◌∷◌, ◌++◌, Bool, true, ap, sym, append_assoc, append-nil, rules, arith}
-use Rattle.mv_show.proofs.Words.{Decides-and, PackKey, is_same_pack, insert_all, LogEntry, Subject, Party, is_same_subject, named_of, subjects_of}
+use Rattle.mv_show.proofs.Words.{◌≡◌, List, [], ◌∷◌, ◌++◌, Bool, true, ap, sym, append_assoc, append-nil, rules, arith, Decides-and, PackKey, is_same_pack, insert_all, LogEntry, Subject, Party, is_same_subject, named_of, subjects_of}
 use Rattle.std.specs.Cmp.{IsEquivalence}
 use Rattle.std.proofs.lemmas.Cmp.{nat_list_eq_equiv}
 use Rattle.std.proofs.lemmas.Slice.Eq.{bytes_eq-Decides}

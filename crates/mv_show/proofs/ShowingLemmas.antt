@@ -1,6 +1,5 @@
 -- Lemmas on an input that was taken, and on what was shown of it.
-use Rattle.std.proofs.Common.{◌≡◌, ◌≢◌, ℕ, List, [], ◌∷◌, refl, arith, inl, rules, IfSome, Option, Some, None}
-use Rattle.mv_show.proofs.Words.{Appends-nil}
+use Rattle.mv_show.proofs.Words.{◌≡◌, ◌≢◌, ℕ, List, [], ◌∷◌, refl, arith, inl, rules, IfSome, Option, Some, None, Appends-nil}
 use Rattle.std.specs.Io.KnownBytes.{Consumes}
 use Rattle.mv_engine.specs.declared.fault.ServeFault.{ServeFault}
 use Rattle.mv_engine.specs.declared.fault.ServeFault.TheVariants.{Read, Write, Memory}

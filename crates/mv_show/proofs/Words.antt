@@ -9,5 +9,6 @@ pub use Rattle.mv_show.specs.Shown.{Row, lines_text, link_rows, party_rows, show
 pub use Rattle.mv_show.specs.Subjects.{is_same_subject, named_of, subjects_of}
 pub use Rattle.mv_show.specs.declared.subject.Subject.TheVariants.{Pack, Party}
 pub use Rattle.mv_show.specs.declared.subject.Subject.{Subject}
+pub use Rattle.std.proofs.Common.{Bool, IfErr, IfSome, List, None, Option, Result, Some, [], add-one, ap, append-nil, append_assoc, arith, count_by, drop, filter, flat_map, inl, length, map, refl, rules, slice_index_or, subst, sym, take, take_all, true, ℕ, ◌++◌, ◌+◌, ◌-◌, ◌<◌, ◌==◌, ◌∙◌, ◌∷◌, ◌≡◌, ◌≢◌, ◌≤◌}
 pub use Rattle.std.proofs.KnownBytes.{Appends-nil, Appends-trans}
 pub use Rattle.std.proofs.lemmas.Bool.Decides.{Decides-and, nat_tests}

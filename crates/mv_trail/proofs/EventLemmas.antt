@@ -1,6 +1,5 @@
 -- What is written of an event.
-use Rattle.std.proofs.Common.{◌≡◌, ℕ, List, length, subst, refl, inr, IfOk, IfErr, Bool, option_map, Some, Result, Ok, Err, arith}
-use Rattle.mv_trail.proofs.Words.{nat_tests, Message, Entry, line_at, GotNoReply, Readied, said, Open, IsTaken, Answered, Event, event_of, last_of, routed, routing, event_text, IsEvent, Says, Tells}
+use Rattle.mv_trail.proofs.Words.{◌≡◌, ℕ, List, length, subst, refl, inr, IfOk, IfErr, Bool, option_map, Some, Result, Ok, Err, arith, nat_tests, Message, Entry, line_at, GotNoReply, Readied, said, Open, IsTaken, Answered, Event, event_of, last_of, routed, routing, event_text, IsEvent, Says, Tells}
 use Rattle.mv_hub.specs.declared.entry.Entry.TheVariants as entries
 use Rattle.mv_trail.specs.EventValues.{event_value}
 

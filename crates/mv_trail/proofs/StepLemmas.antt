@@ -1,6 +1,5 @@
 -- What each step adds to a list that is kept of the state is what its event tells of it.
-use Rattle.std.proofs.Common.{◌≡◌, ℕ, List, [], ◌++◌, Option, None, option_and_then, option_to_list, arith, IsTrue}
-use Rattle.mv_trail.proofs.Words.{nat_tests, Change, drops, Step, Reply, State, Event, event_of_step}
+use Rattle.mv_trail.proofs.Words.{◌≡◌, ℕ, List, [], ◌++◌, Option, None, option_and_then, option_to_list, arith, IsTrue, nat_tests, Change, drops, Step, Reply, State, Event, event_of_step}
 use Rattle.mv_machine.specs.Replies.{changes_nothing}
 use Rattle.mv_repository.specs.declared.verdict.Verdict.{Verdict}
 use Rattle.mv_pack.specs.declared.key.PackKey.{PackKey}

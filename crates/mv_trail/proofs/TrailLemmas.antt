@@ -1,7 +1,5 @@
 -- The events of a run tell the record, the logs and the submissions.
-use Rattle.std.proofs.Common.{◌≡◌, ℕ, zero, suc, ◌+◌, List, [], ◌∷◌, ◌++◌, map, length, Some, None, refl, sym, ap, ◌∙◌, append-nil, append_assoc, get_or, arith, rules}
-use Rattle.mv_trail.proofs.Words.{nat_tests, Step, Reply, State, opening, submissions_of, log_of, IsSound, change-sound, opening-sound, step-changes, SiteState, new_site, Answered, Line, AreReplies, said_texts, Open, IsTaken, Event, event_of, AreTold, entry_told, applied_told, submission_told, unless_answer, EventsAreWritten, RecordIsTold, LogsAreTold, SubmissionsAreTold, IsEvent, event_text}
-use Rattle.std.specs.Prelude.{option_map, option_to_list, Option, ⊤}
+use Rattle.mv_trail.proofs.Words.{◌≡◌, ℕ, zero, suc, ◌+◌, List, [], ◌∷◌, ◌++◌, map, length, Some, None, refl, sym, ap, ◌∙◌, append-nil, append_assoc, get_or, arith, rules, option_map, option_to_list, Option, ⊤, nat_tests, Step, Reply, State, opening, submissions_of, log_of, IsSound, change-sound, opening-sound, step-changes, SiteState, new_site, Answered, Line, AreReplies, said_texts, Open, IsTaken, Event, event_of, AreTold, entry_told, applied_told, submission_told, unless_answer, EventsAreWritten, RecordIsTold, LogsAreTold, SubmissionsAreTold, IsEvent, event_text}
 use Rattle.std.specs.List.{enumerate_from, filter_map, range_with_len}
 use Rattle.mv_machine.specs.Limits.{Bounds}
 use Rattle.mv_machine.specs.Runs.{Allows}

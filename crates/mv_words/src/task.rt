@@ -1,7 +1,7 @@
 //! What the words of the command line ask for.
 
-ghost use Rattle.std.specs.Prelude.{◌≡◌, ℕ, List, [], false, true, MatchResult, IfOk, Some, map, codes, string_bytes};
-ghost use Rattle.clap.specs.Words.{all_of, fault_of, FailsBy, found_of, one_of, Row, rows_of, subcommand_of, subcommand_rows_of};
+ghost use Rattle.std.specs.Prelude.{◌≡◌, ℕ, List, false, true, MatchResult, IfOk, Some, map, codes, string_bytes};
+ghost use Rattle.clap.specs.Words.{all_of, fault_of, FailsBy, found_of, one_of, Row, rows_of, subcommand_rows_of};
 ghost use Rattle.clap.specs.Values.{kind_of};
 ghost use Rattle.clap.specs.declared.error.kind.ErrorKind.TheVariants.{OutOfMemory};
 ghost use Rattle.mv_words.specs.Words.{command_line, AsksFor, IsFor, WritesTurns};

@@ -1,6 +1,5 @@
 -- What comes back of a crew, desk by desk.
-use Rattle.std.proofs.Common.{◌≡◌, Bool, List, [], ◌∷◌, ◌++◌, length, map, arith, ◌&&◌, ◌==◌}
-use Rattle.mv_workers.proofs.Words.{nat_tests, map-append, same_from_push, RepoEnd, AreSameRepos, own_of, IsFurther, Handle, end_of, work_of, AreBegun}
+use Rattle.mv_workers.proofs.Words.{◌≡◌, Bool, List, [], ◌∷◌, ◌++◌, length, map, arith, ◌&&◌, ◌==◌, nat_tests, map-append, same_from_push, RepoEnd, AreSameRepos, own_of, IsFurther, Handle, end_of, work_of, AreBegun}
 use Rattle.std.proofs.lemmas.Slice.Zip.{all_zipped_more}
 use Rattle.mv_workers.specs.declared.desk.Desk.{Desk}
 use Rattle.mv_workers.proofs.WorkLemmas.{begun_of}

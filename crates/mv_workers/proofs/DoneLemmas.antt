@@ -1,7 +1,6 @@
 -- Lengths decide what is carried out.
 use Rattle.std.proofs.lemmas.Grind.{common_steps}
-use Rattle.mv_workers.proofs.Words.{nat_tests, count_by, Item, LogEntry, items_from, State, submissions_of, log_of, IsLawful}
-use Rattle.std.proofs.Common.{◌≡◌, ◌<◌, ◌+◌, ℕ, Bool, List, ◌∷◌, length, cond, eqb, refl, arith, append-nil, length-append}
+use Rattle.mv_workers.proofs.Words.{◌≡◌, ◌<◌, ◌+◌, ℕ, Bool, List, ◌∷◌, length, cond, eqb, refl, arith, append-nil, length-append, nat_tests, count_by, Item, LogEntry, items_from, State, submissions_of, log_of, IsLawful}
 use Rattle.std.proofs.lemmas.List.Recursion.{is_count_by}
 use mathlib.Core.List.{IsPrefix}
 use Rattle.mv_hub.specs.Record.{routed_from}

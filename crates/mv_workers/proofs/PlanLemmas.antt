@@ -1,6 +1,5 @@
 -- What a plan is beside what its run leaves.
-use Rattle.std.proofs.Common.{◌≡◌, ◌∙◌, ◌<◌, ℕ, zero, suc, Bool, true, false, List, [], ◌∷◌, length, map, get_or, refl, sym, ap, subst, arith, ◌↔◌, ◌&&◌, IsTrue, IsFalse}
-use Rattle.mv_workers.proofs.Words.{nat_tests, ext_get_or, get_or-map, length-map, SiteState, new_site, State, submissions_of, IsLawful, RepoEnd, HubSeat, repo_seat, own_among, AllUnused, own_of, IsCarried, AreBegun, IsCrewOf, IsBack}
+use Rattle.mv_workers.proofs.Words.{◌≡◌, ◌∙◌, ◌<◌, ℕ, zero, suc, Bool, true, false, List, [], ◌∷◌, length, map, get_or, refl, sym, ap, subst, arith, ◌↔◌, ◌&&◌, IsTrue, IsFalse, nat_tests, ext_get_or, get_or-map, length-map, SiteState, new_site, State, submissions_of, IsLawful, RepoEnd, HubSeat, repo_seat, own_among, AllUnused, own_of, IsCarried, AreBegun, IsCrewOf, IsBack}
 use Rattle.std.proofs.lemmas.List.Elements.{AllZip-get_or}
 use Rattle.mv_machine.specs.Limits.{Bounds}
 use Rattle.mv_machine.specs.State.{opening, site_of}

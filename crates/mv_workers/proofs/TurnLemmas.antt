@@ -1,6 +1,5 @@
 -- What the tries of a turn leave of what a party submitted of its own.
-use Rattle.std.proofs.Common.{◌≡◌, ℕ, false, List, [], ◌∷◌, ◌++◌, append-nil, refl, ap, arith, option_to_list}
-use Rattle.mv_workers.proofs.Words.{nat_tests, Message, Query, Item, LogEntry, SiteState, RepoEnd, IsRepoUnchanged, Puts, Submits, Asks, Applies, own_among, own_of}
+use Rattle.mv_workers.proofs.Words.{◌≡◌, ℕ, false, List, [], ◌∷◌, ◌++◌, append-nil, refl, ap, arith, option_to_list, nat_tests, Message, Query, Item, LogEntry, SiteState, RepoEnd, IsRepoUnchanged, Puts, Submits, Asks, Applies, own_among, own_of}
 use Rattle.mv_pack.specs.declared.key.PackKey.{PackKey}
 use Rattle.mv_message.specs.Kinds.{is_query_or_answer}
 use Rattle.mv_link.specs.declared.incoming.Look.{Look}

@@ -15,6 +15,7 @@ pub use Rattle.mv_workers.specs.Crews.{AreBegun, Handle, IsBack, IsCrewOf, end_o
 pub use Rattle.mv_workers.specs.Desks.{AllUnused, IsFurther, own_of}
 pub use Rattle.mv_workers.specs.Plans.{IsCarried}
 pub use Rattle.mv_workers.specs.Work.{is_answer, lists_of, own_among}
+pub use Rattle.std.proofs.Common.{Bool, IsFalse, IsTrue, List, [], ap, append-nil, arith, cond, eqb, false, get_or, inl, inr, length, length-append, ltb-true, map, not, option_to_list, refl, rules, subst, suc, sym, true, vec_len, zero, ℕ, ◌&&◌, ◌++◌, ◌+◌, ◌<◌, ◌==◌, ◌↔◌, ◌∙◌, ◌∷◌, ◌≡◌, ◌≤◌}
 pub use Rattle.std.proofs.lemmas.Bool.Decides.{nat_tests}
 pub use Rattle.std.proofs.lemmas.Bool.{cases_lt}
 pub use Rattle.std.proofs.lemmas.List.{ext_get_or, get_or-map, length-map, map-append, nil_from_length, same_from_push}

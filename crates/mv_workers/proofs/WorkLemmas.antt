@@ -1,6 +1,5 @@
 -- What a party submits of its own, and of which list that is a front.
-use Rattle.std.proofs.Common.{◌≡◌, ◌<◌, get_or, ℕ, Bool, List, [], ◌∷◌, ◌++◌, length, length-append, append-nil, not, sym, ap, ◌∙◌, arith, ◌==◌, ◌↔◌, IsTrue, false}
-use Rattle.mv_workers.proofs.Words.{list_any, nat_tests, length-map, get_or-map, nil_from_length, Message, Answer, answers_in, lists_of, own_among, is_answer}
+use Rattle.mv_workers.proofs.Words.{◌≡◌, ◌<◌, get_or, ℕ, Bool, List, [], ◌∷◌, ◌++◌, length, length-append, append-nil, not, sym, ap, ◌∙◌, arith, ◌==◌, ◌↔◌, IsTrue, false, list_any, nat_tests, length-map, get_or-map, nil_from_length, Message, Answer, answers_in, lists_of, own_among, is_answer}
 use mathlib.Core.List.{IsPrefix}
 use Rattle.std.proofs.lemmas.List.Elements.{filter-append}
 use Rattle.std.specs.declared.alloc.Global.{Global}

@@ -1,6 +1,5 @@
 -- The ends of each party are those that were opened for it.
-use Rattle.std.proofs.Common.{◌≡◌, ◌∙◌, length, subst, rules}
-use Rattle.mv_ends.proofs.Words.{IsOpened, length-map, received}
+use Rattle.mv_ends.proofs.Words.{◌≡◌, ◌∙◌, length, subst, rules, IsOpened, length-map, received}
 use Rattle.mv_ends.proofs.OpeningLemmas.{opened_more, square_of, ends_of, fresh_of}
 use Rattle.mv_ends.proofs.opening.open.Goals as goal
 

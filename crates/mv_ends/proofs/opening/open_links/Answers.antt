@@ -1,5 +1,4 @@
-use Rattle.std.proofs.Common.{◌∙◌, sym, rules}
-use Rattle.mv_ends.proofs.Words.{length-map, received}
+use Rattle.mv_ends.proofs.Words.{◌∙◌, sym, rules, length-map, received}
 use Rattle.mv_ends.proofs.OpeningLemmas.{links_more}
 use Rattle.mv_ends.proofs.RingLemmas.{one_ring}
 use Rattle.mv_ends.proofs.opening.open_links.Goals as goal

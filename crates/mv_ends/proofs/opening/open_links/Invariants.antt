@@ -1,5 +1,4 @@
-use Rattle.std.proofs.Common.{◌≤◌, vec_items, vec_capacity}
-use Rattle.mv_ends.proofs.Words.{inflow_of, AreLinks}
+use Rattle.mv_ends.proofs.Words.{◌≤◌, vec_items, vec_capacity, inflow_of, AreLinks}
 use Rattle.mv_ends.proofs.opening.open_links.Given as goal
 
 -- the rings so far are those of so many links, and there is room for the others

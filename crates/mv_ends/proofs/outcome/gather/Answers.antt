@@ -1,5 +1,4 @@
-use Rattle.std.proofs.Common.{◌<◌, ◌∙◌, length, sym, ap, subst, arith}
-use Rattle.mv_ends.proofs.Words.{IsSquare, HubState}
+use Rattle.mv_ends.proofs.Words.{◌<◌, ◌∙◌, length, sym, ap, subst, arith, IsSquare, HubState}
 use Rattle.mv_ends.proofs.LookLemmas.{seat_of}
 use Rattle.mv_ends.proofs.OutcomeLemmas.{gathering_more, outcome_of}
 use Rattle.mv_ends.proofs.outcome.gather.Goals as goal

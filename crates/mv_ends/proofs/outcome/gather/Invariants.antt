@@ -1,5 +1,4 @@
-use Rattle.std.proofs.Common.{◌≡◌, length, vec_items}
-use Rattle.mv_ends.proofs.Words.{state_of}
+use Rattle.mv_ends.proofs.Words.{◌≡◌, length, vec_items, state_of}
 use Rattle.mv_ends.proofs.OutcomeLemmas.{IsGathering}
 use Rattle.mv_ends.proofs.outcome.gather.Given as goal
 

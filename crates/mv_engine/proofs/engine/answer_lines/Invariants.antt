@@ -1,5 +1,4 @@
-use Rattle.std.proofs.Common.{ℕ, List, []}
-use Rattle.mv_engine.proofs.Words.{Appends, Consumes, Taken}
+use Rattle.mv_engine.proofs.Words.{ℕ, List, [], Appends, Consumes, Taken}
 use Rattle.mv_engine.proofs.engine.answer_lines.Given as goal
 
 -- some bytes were read and taken, and the replies to the lines that end in them went out

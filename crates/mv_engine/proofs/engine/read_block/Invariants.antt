@@ -1,5 +1,4 @@
-use Rattle.std.proofs.Common.{◌-◌}
-use Rattle.mv_engine.proofs.Words.{Keeps}
+use Rattle.mv_engine.proofs.Words.{◌-◌, Keeps}
 use Rattle.mv_engine.proofs.engine.read_block.Given as goal
 
 -- no byte has come

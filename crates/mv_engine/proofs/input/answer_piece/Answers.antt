@@ -1,5 +1,4 @@
-use Rattle.std.proofs.Common.{rules, arith, ◌≡◌, ◌≢◌, length, ap}
-use Rattle.mv_engine.proofs.Words.{nil_from_length, strip_last}
+use Rattle.mv_engine.proofs.Words.{rules, arith, ◌≡◌, ◌≢◌, length, ap, nil_from_length, strip_last}
 use Rattle.mv_engine.proofs.InputLemmas.{one_kept, reply_dropped}
 use Rattle.mv_engine.proofs.RepliesLemmas.{nothing_added, reply_added, none_said}
 use Rattle.mv_engine.proofs.input.answer_piece.Goals as goal

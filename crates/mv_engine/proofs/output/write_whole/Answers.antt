@@ -1,5 +1,4 @@
-use Rattle.std.proofs.Common.{◌+◌, arith, length-drop}
-use Rattle.mv_engine.proofs.Words.{Appends-kept}
+use Rattle.mv_engine.proofs.Words.{◌+◌, arith, length-drop, Appends-kept}
 use Rattle.mv_engine.proofs.OutputLemmas.{wrote_more, front_is_part}
 use Rattle.mv_engine.proofs.output.write_whole.Goals as goal
 

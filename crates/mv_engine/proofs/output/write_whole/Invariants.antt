@@ -1,5 +1,4 @@
-use Rattle.std.proofs.Common.{length, ◌-◌, ◌≤◌, take}
-use Rattle.mv_engine.proofs.Words.{Appends}
+use Rattle.mv_engine.proofs.Words.{length, ◌-◌, ◌≤◌, take, Appends}
 use Rattle.mv_engine.proofs.output.write_whole.Given as goal
 
 -- the first bytes are written

@@ -1,5 +1,4 @@
-use Rattle.std.proofs.Common.{◌≡◌, drop, map}
-use Rattle.mv_format.proofs.Words.{items_view, market_list, read_all, with_front}
+use Rattle.mv_format.proofs.Words.{◌≡◌, drop, map, items_view, market_list, read_all, with_front}
 use Rattle.mv_format.proofs.market_lists.market_lists_in.Given as goal
 
 -- the lists so far stand before those that are left

@@ -1,5 +1,4 @@
-use Rattle.std.proofs.Common.{◌≡◌, drop}
-use Rattle.mv_format.proofs.Words.{items_view, market_item, read_all, with_front}
+use Rattle.mv_format.proofs.Words.{◌≡◌, drop, items_view, market_item, read_all, with_front}
 use Rattle.mv_format.proofs.market_lists.markets_in.Given as goal
 
 -- the markets so far stand before those that are left

@@ -1,5 +1,4 @@
-use Rattle.std.proofs.Common.{◌≡◌, ◌++◌, ◌∷◌, flat_map, take}
-use Rattle.mv_format.proofs.Words.{begin_object, member_tokens}
+use Rattle.mv_format.proofs.Words.{◌≡◌, ◌++◌, ◌∷◌, flat_map, take, begin_object, member_tokens}
 use Rattle.mv_format.proofs.members.write_object.Given as goal
 
 -- the first members are written

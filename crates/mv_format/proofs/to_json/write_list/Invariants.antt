@@ -1,5 +1,4 @@
-use Rattle.std.proofs.Common.{◌≡◌, ◌++◌, ◌∷◌, flat_map, take}
-use Rattle.mv_format.proofs.Words.{begin_array, tokens_of}
+use Rattle.mv_format.proofs.Words.{◌≡◌, ◌++◌, ◌∷◌, flat_map, take, begin_array, tokens_of}
 use Rattle.mv_format.proofs.to_json.write_list.Given as goal
 
 -- the first values are written

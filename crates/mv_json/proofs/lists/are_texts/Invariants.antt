@@ -1,5 +1,4 @@
-use Rattle.std.proofs.Common.{◌≡◌, drop, is_some}
-use Rattle.mv_json.proofs.Words.{as_str, list_all, view}
+use Rattle.mv_json.proofs.Words.{◌≡◌, drop, is_some, as_str, list_all, view}
 use Rattle.mv_json.proofs.lists.are_texts.Given as goal
 
 -- all so far are texts

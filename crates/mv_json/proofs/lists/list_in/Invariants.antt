@@ -1,5 +1,4 @@
-use Rattle.std.proofs.Common.{◌≡◌, ◌≤◌, drop, length, vec_capacity, vec_len}
-use Rattle.mv_json.proofs.Words.{items_view, read_items}
+use Rattle.mv_json.proofs.Words.{◌≡◌, ◌≤◌, drop, length, vec_capacity, vec_len, items_view, read_items}
 use Rattle.mv_json.proofs.ReadingLemmas.{with_front}
 use Rattle.mv_json.proofs.lists.list_in.Given as goal
 

@@ -1,5 +1,4 @@
-use Rattle.std.proofs.Common.{◌∷◌, map, take, Ok}
-use Rattle.mv_json.proofs.Words.{AllocError, Puts}
+use Rattle.mv_json.proofs.Words.{◌∷◌, map, take, Ok, AllocError, Puts}
 use Rattle.json.specs.Token.{string, begin_array}
 use Rattle.mv_json.proofs.member.put_list.Given as goal
 

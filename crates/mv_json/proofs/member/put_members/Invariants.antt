@@ -1,5 +1,4 @@
-use Rattle.std.proofs.Common.{take, Ok}
-use Rattle.mv_json.proofs.Words.{AllocError, Puts, members_put}
+use Rattle.mv_json.proofs.Words.{take, Ok, AllocError, Puts, members_put}
 use Rattle.mv_json.proofs.member.put_members.Given as goal
 
 -- the first members were put

@@ -1,6 +1,5 @@
 use Rattle.std.proofs.lemmas.Grind.{common_steps}
-use Rattle.std.proofs.Common.{arith}
-use Rattle.mv_json.proofs.Words.{PutsValue}
+use Rattle.mv_json.proofs.Words.{arith, PutsValue}
 use Rattle.mv_json.proofs.TokenLemmas.{members_are}
 use Rattle.mv_json.proofs.member.put_object.Goals as goal
 

@@ -1,5 +1,4 @@
-use Rattle.std.proofs.Common.{◌≡◌, bytes_eq, find, map, not, option_map, string_bytes}
-use Rattle.mv_json.proofs.Words.{first_unknown, list_any, members_view}
+use Rattle.mv_json.proofs.Words.{◌≡◌, bytes_eq, find, map, not, option_map, string_bytes, first_unknown, list_any, members_view}
 use Rattle.mv_json.proofs.members.first_unknown.Given as goal
 
 -- the first unknown key is the first one among those that are left

@@ -1,5 +1,4 @@
-use Rattle.std.proofs.Common.{◌≡◌, bytes_eq, drop, map}
-use Rattle.mv_json.proofs.Words.{list_any}
+use Rattle.mv_json.proofs.Words.{◌≡◌, bytes_eq, drop, map, list_any}
 use Rattle.mv_json.proofs.members.is_named.Given as goal
 
 -- no field so far has that name

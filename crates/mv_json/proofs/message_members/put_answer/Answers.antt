@@ -1,5 +1,4 @@
-use Rattle.std.proofs.Common.{refl, subst}
-use Rattle.mv_json.proofs.Words.{PutsValue, value_in}
+use Rattle.mv_json.proofs.Words.{refl, subst, PutsValue, value_in}
 use Rattle.mv_message.specs.declared.message.Message.TheVariants.{Answer}
 use Rattle.mv_json.proofs.TokenLemmas.{one, ◌then◌, named, version_is}
 use Rattle.mv_json.proofs.message_members.put_answer.Goals as goal

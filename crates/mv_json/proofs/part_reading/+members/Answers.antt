@@ -1,5 +1,4 @@
-use Rattle.std.proofs.Common.{◌≡◌, ◌∷◌, length, sym, subst, ap, arith, rules, []}
-use Rattle.mv_json.proofs.Words.{deep_in, end_object, field_name, key}
+use Rattle.mv_json.proofs.Words.{◌≡◌, ◌∷◌, length, sym, subst, ap, arith, rules, [], deep_in, end_object, field_name, key}
 use Rattle.mv_json.proofs.MetLemmas.{none_met, all_met, begun_shorter}
 use Rattle.mv_json.proofs.PartLemmas.{AreEntries, one_more_entry}
 use Rattle.mv_json.proofs.part_reading.+members.Goals as goal

@@ -1,5 +1,4 @@
-use Rattle.std.proofs.Common.{◌≡◌, ◌∷◌, ◌++◌, subst, append-nil, []}
-use Rattle.mv_json.proofs.Words.{BeginWithTexts, closed_array, end_array}
+use Rattle.mv_json.proofs.Words.{◌≡◌, ◌∷◌, ◌++◌, subst, append-nil, [], BeginWithTexts, closed_array, end_array}
 use Rattle.mv_json.proofs.part_reading.take_list.Goals as goal
 
 pub returns-clause-list : goal.returns-clause-list

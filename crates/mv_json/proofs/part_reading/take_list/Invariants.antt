@@ -1,5 +1,4 @@
-use Rattle.std.proofs.Common.{◌≤◌, List, ◌++◌, length, vec_capacity}
-use Rattle.mv_json.proofs.Words.{BeginWithTexts, Token}
+use Rattle.mv_json.proofs.Words.{◌≤◌, List, ◌++◌, length, vec_capacity, BeginWithTexts, Token}
 use Rattle.mv_json.proofs.part_reading.take_list.Given as goal
 
 -- whatever values come next stand behind those that were taken

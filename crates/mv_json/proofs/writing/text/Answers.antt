@@ -1,5 +1,4 @@
-use Rattle.std.proofs.Common.{◌∙◌, ◌++◌, ap}
-use Rattle.mv_json.proofs.Words.{IsUtf8-string_bytes, compact_text, value_of}
+use Rattle.mv_json.proofs.Words.{◌∙◌, ◌++◌, ap, IsUtf8-string_bytes, compact_text, value_of}
 use Rattle.mv_json.proofs.ValueLemmas.{canonical_reads_back}
 use Rattle.mv_json.proofs.writing.text.Goals as goal
 

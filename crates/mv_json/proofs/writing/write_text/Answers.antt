@@ -1,5 +1,4 @@
-use Rattle.std.proofs.Common.{◌≡◌, rules, arith}
-use Rattle.mv_json.proofs.Words.{PutsValue, compact_text, print, value_of}
+use Rattle.mv_json.proofs.Words.{◌≡◌, rules, arith, PutsValue, compact_text, print, value_of}
 use Rattle.mv_json.proofs.TokenLemmas.{printed}
 use Rattle.mv_json.proofs.writing.write_text.Goals.{After-drop-into_inner}
 use Rattle.mv_json.proofs.writing.write_text.Goals as goal

@@ -1,5 +1,4 @@
-use Rattle.std.proofs.Common.{◌++◌, ◌∙◌, ap, flat_map, sym}
-use Rattle.mv_show.proofs.Words.{lines_text, subject_rows, subjects_of}
+use Rattle.mv_show.proofs.Words.{◌++◌, ◌∙◌, ap, flat_map, sym, lines_text, subject_rows, subjects_of}
 use Rattle.mv_show.proofs.BlockLemmas.{err_always, first_rest, nothing_left, part_more, passed_all, passed_part, passes_more, passes_nothing, rest_of}
 use Rattle.mv_show.proofs.blocks.write_party.Goals as goal
 

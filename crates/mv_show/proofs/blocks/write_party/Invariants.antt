@@ -1,5 +1,4 @@
-use Rattle.std.proofs.Common.{◌++◌, flat_map, length}
-use Rattle.mv_show.proofs.Words.{Passes, lines_text, party_rows, subject_rows}
+use Rattle.mv_show.proofs.Words.{◌++◌, flat_map, length, Passes, lines_text, party_rows, subject_rows}
 use Rattle.mv_show.proofs.blocks.write_party.Given as goal
 
 -- of the text of all lines some first bytes went out, and there are left what stands ready and the lines of the other subjects

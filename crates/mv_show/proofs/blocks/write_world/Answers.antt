@@ -1,6 +1,5 @@
-use Rattle.std.proofs.Common.{◌++◌, ◌+◌, ap, arith, flat_map, refl}
 use Rattle.std.proofs.lemmas.Result.{IfErr-weaker, on_ok_weaker}
-use Rattle.mv_show.proofs.Words.{party_rows}
+use Rattle.mv_show.proofs.Words.{◌++◌, ◌+◌, ap, arith, flat_map, refl, party_rows}
 use Rattle.mv_show.proofs.BlockLemmas.{err_always, links_from, next_lines, next_number, no_number, numbers_from, part_last, part_more, party_numbers, passed_part, passes_all, passes_more}
 use Rattle.mv_show.proofs.blocks.write_world.Goals as goal
 

@@ -1,5 +1,4 @@
-use Rattle.std.proofs.Common.{◌++◌, Some, flat_map}
-use Rattle.mv_show.proofs.Words.{Passes, lines_text, party_rows, shown_rows}
+use Rattle.mv_show.proofs.Words.{◌++◌, Some, flat_map, Passes, lines_text, party_rows, shown_rows}
 use Rattle.mv_show.proofs.BlockLemmas.{links_from, numbers_from, party_numbers}
 use Rattle.mv_show.proofs.blocks.write_world.Given as goal
 

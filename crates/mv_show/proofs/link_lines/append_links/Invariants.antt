@@ -1,5 +1,4 @@
-use Rattle.std.proofs.Common.{◌≡◌, ◌++◌, flat_map}
-use Rattle.mv_show.proofs.Words.{lines_text, link_rows}
+use Rattle.mv_show.proofs.Words.{◌≡◌, ◌++◌, flat_map, lines_text, link_rows}
 use Rattle.mv_show.proofs.BlockLemmas.{links_from, numbers_from}
 use Rattle.mv_show.proofs.link_lines.append_links.Given as goal
 

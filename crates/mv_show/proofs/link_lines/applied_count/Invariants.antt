@@ -1,5 +1,4 @@
-use Rattle.std.proofs.Common.{◌≡◌, ◌==◌, count_by, take}
-use Rattle.mv_show.proofs.Words.{LogEntry}
+use Rattle.mv_show.proofs.Words.{◌≡◌, ◌==◌, count_by, take, LogEntry}
 use Rattle.mv_show.proofs.link_lines.applied_count.Given as goal
 
 -- the first entries are counted

@@ -1,5 +1,4 @@
-use Rattle.std.proofs.Common.{◌≡◌, ◌-◌, length, take}
-use Rattle.mv_show.proofs.Words.{wire_of}
+use Rattle.mv_show.proofs.Words.{◌≡◌, ◌-◌, length, take, wire_of}
 use Rattle.mv_show.proofs.link_lines.wire_of.Given as goal
 
 -- the first numbers are listed

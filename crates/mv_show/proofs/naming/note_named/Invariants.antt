@@ -1,5 +1,4 @@
-use Rattle.std.proofs.Common.{◌≡◌, take}
-use Rattle.mv_show.proofs.Words.{insert_all, is_same_subject, named_of}
+use Rattle.mv_show.proofs.Words.{◌≡◌, take, insert_all, is_same_subject, named_of}
 use Rattle.mv_show.proofs.naming.note_named.Given as goal
 
 -- what the first entries name is noted

@@ -1,5 +1,4 @@
-use Rattle.std.proofs.Common.{◌≡◌, map, take}
-use Rattle.mv_show.proofs.Words.{pack_key, insert_all, Pack, is_same_subject}
+use Rattle.mv_show.proofs.Words.{◌≡◌, map, take, pack_key, insert_all, Pack, is_same_subject}
 use Rattle.mv_show.proofs.naming.note_packs.Given as goal
 
 -- the first packs are noted

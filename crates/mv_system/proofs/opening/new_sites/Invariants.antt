@@ -1,5 +1,4 @@
-use Rattle.std.proofs.Common.{◌≡◌, map}
-use Rattle.mv_system.proofs.Words.{new_site, range_with_len}
+use Rattle.mv_system.proofs.Words.{◌≡◌, map, new_site, range_with_len}
 use Rattle.mv_system.proofs.opening.new_sites.Given as goal
 
 abbrev pub invariant-loop-party : goal.invariant-loop-party

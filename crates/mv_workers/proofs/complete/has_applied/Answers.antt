@@ -1,5 +1,4 @@
-use Rattle.std.proofs.Common.{ltb-true, rules}
-use Rattle.mv_workers.proofs.Words.{cases_lt}
+use Rattle.mv_workers.proofs.Words.{ltb-true, rules, cases_lt}
 use Rattle.mv_workers.proofs.DoneLemmas.{applied_by_count}
 use Rattle.mv_workers.proofs.complete.has_applied.Goals as goal
 

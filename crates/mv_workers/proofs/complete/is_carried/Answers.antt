@@ -1,5 +1,4 @@
-use Rattle.std.proofs.Common.{◌≡◌, length, refl, sym, ap, subst, arith, inl, inr, rules}
-use Rattle.mv_workers.proofs.Words.{cases_lt, IsCarried}
+use Rattle.mv_workers.proofs.Words.{◌≡◌, length, refl, sym, ap, subst, arith, inl, inr, rules, cases_lt, IsCarried}
 use Rattle.mv_workers.proofs.complete.is_carried.Goals as goal
 
 -- one more party's messages were carried

@@ -1,5 +1,4 @@
-use Rattle.std.proofs.Common.{◌<◌, ℕ}
-use Rattle.mv_workers.proofs.Words.{IsCarried}
+use Rattle.mv_workers.proofs.Words.{◌<◌, ℕ, IsCarried}
 use Rattle.mv_workers.proofs.complete.is_carried.Given as goal
 
 abbrev pub invariant-loop-party : goal.invariant-loop-party

@@ -1,5 +1,4 @@
-use Rattle.std.proofs.Common.{◌≡◌, ◌+◌, ◌≤◌, ◌++◌, vec_len}
-use Rattle.mv_workers.proofs.Words.{vec_capacity, into_iter_items, into_iter_len}
+use Rattle.mv_workers.proofs.Words.{◌≡◌, ◌+◌, ◌≤◌, ◌++◌, vec_len, vec_capacity, into_iter_items, into_iter_len}
 use Rattle.mv_workers.proofs.work.parcels_of.Given as goal
 
 -- the parcels so far are the first messages, and there is room for the others

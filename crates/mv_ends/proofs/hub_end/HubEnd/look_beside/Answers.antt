@@ -1,5 +1,4 @@
-use Rattle.std.proofs.Common.{[], get_or, subst, sym, arith}
-use Rattle.mv_ends.proofs.Words.{IsLawfulParty, items_on, cell, hub_seat}
+use Rattle.mv_ends.proofs.Words.{[], get_or, subst, sym, arith, IsLawfulParty, items_on, cell, hub_seat}
 use Rattle.mv_ends.proofs.LookLemmas.{applied_front, count_seated}
 use Rattle.mv_ends.proofs.hub_end.HubEnd.look_beside.Goals as goal
 

@@ -1,5 +1,4 @@
-use Rattle.std.proofs.Common.{length}
-use Rattle.mv_ends.proofs.Words.{square-put}
+use Rattle.mv_ends.proofs.Words.{length, square-put}
 use Rattle.mv_ends.proofs.EndLemmas.{of_links_put}
 use Rattle.mv_ends.proofs.hub_end.HubEnd.put.Goals as goal
 

@@ -1,6 +1,5 @@
 -- The hub routed what is taken from the uplink.
-use Rattle.std.proofs.Common.{◌≡◌, ◌+◌, length, rules}
-use Rattle.mv_ends.proofs.Words.{routed_count, with_item}
+use Rattle.mv_ends.proofs.Words.{◌≡◌, ◌+◌, length, rules, routed_count, with_item}
 use Rattle.mv_machine.specs.declared.reply.Reply.TheVariants.{Routed}
 use Rattle.mv_ends.proofs.EndLemmas.{of_links_entered, took_routed, within_routed, route_refused}
 use Rattle.mv_ends.proofs.hub_end.HubEnd.route.Goals as goal

@@ -1,6 +1,5 @@
 -- The two ends of each ring are those of one ring, which has the size that the limits give.
-use Rattle.std.proofs.Common.{◌∙◌, ◌++◌, ◌∷◌, [], sym, ap, subst}
-use Rattle.mv_ends.proofs.Words.{ring_put, AreLinks}
+use Rattle.mv_ends.proofs.Words.{◌∙◌, ◌++◌, ◌∷◌, [], sym, ap, subst, ring_put, AreLinks}
 use Rattle.mv_ends.proofs.RingLemmas.{one_ring}
 use Rattle.mv_ends.proofs.opening.Opened.add.Goals as goal
 

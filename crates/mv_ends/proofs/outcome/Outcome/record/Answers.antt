@@ -1,5 +1,4 @@
-use Rattle.std.proofs.Common.{sym}
-use Rattle.mv_ends.proofs.Words.{state_of}
+use Rattle.mv_ends.proofs.Words.{sym, state_of}
 use Rattle.mv_ends.proofs.OutcomeLemmas.{headline_of}
 use Rattle.mv_ends.proofs.outcome.Outcome.record.Goals as goal
 

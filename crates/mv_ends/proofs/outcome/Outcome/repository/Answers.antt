@@ -1,5 +1,4 @@
-use Rattle.std.proofs.Common.{◌∙◌, ap}
-use Rattle.mv_ends.proofs.Words.{SiteState}
+use Rattle.mv_ends.proofs.Words.{◌∙◌, ap, SiteState}
 use Rattle.mv_ends.proofs.LookLemmas.{seat_of}
 use Rattle.mv_ends.proofs.OutcomeLemmas.{place_of, shown}
 use Rattle.mv_ends.proofs.outcome.Outcome.repository.Goals as goal

@@ -1,6 +1,5 @@
 -- The party took the frame that is taken from the link, and what it answers is on its uplink.
-use Rattle.std.proofs.Common.{◌≡◌, ◌∙◌, refl, sym, ap, rules, ◌++◌, option_to_list, Err}
-use Rattle.mv_ends.proofs.Words.{sent, Taken, SiteState, reply_to, with_item}
+use Rattle.mv_ends.proofs.Words.{◌≡◌, ◌∙◌, refl, sym, ap, rules, ◌++◌, option_to_list, Err, sent, Taken, SiteState, reply_to, with_item}
 use Rattle.mv_ends.proofs.SiteEndLemmas.{apply_refused, apply_taken, memory_told, more_submitted, refused_for, accepted_taken}
 use Rattle.mv_ends.proofs.repo_end.RepoEnd.apply.Goals as goal
 

@@ -1,6 +1,5 @@
-use Rattle.std.proofs.Common.{◌≡◌, ◌∙◌, ◌<◌, [], length, get_or, refl, sym, arith, inl, inr}
 use Rattle.std.specs.Vec.{with_item}
-use Rattle.mv_ends.proofs.Words.{cases_lt, ring_put, sent}
+use Rattle.mv_ends.proofs.Words.{◌≡◌, ◌∙◌, ◌<◌, [], length, get_or, refl, sym, arith, inl, inr, cases_lt, ring_put, sent}
 use Rattle.mv_ends.proofs.RingLemmas.{cell_same, cell_shown}
 use Rattle.mv_ends.proofs.wires.Wires.look_beside.Goals as goal
 

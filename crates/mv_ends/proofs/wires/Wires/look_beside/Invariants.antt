@@ -1,5 +1,4 @@
-use Rattle.std.proofs.Common.{◌≡◌, ◌<◌, ℕ, [], get_or}
-use Rattle.mv_ends.proofs.Words.{IsPrefix, cell, each_row, ring_put, sent}
+use Rattle.mv_ends.proofs.Words.{◌≡◌, ◌<◌, ℕ, [], get_or, IsPrefix, cell, each_row, ring_put, sent}
 use Rattle.mv_ends.proofs.wires.Wires.look_beside.Given as goal
 
 -- the ends of the links so far were looked at, and show what they showed

@@ -1,5 +1,4 @@
-use Rattle.std.proofs.Common.{sym, append-nil}
-use Rattle.mv_engine.proofs.Words.{err_from_is_err_and, MatchResult-weaker}
+use Rattle.mv_engine.proofs.Words.{sym, append-nil, err_from_is_err_and, MatchResult-weaker}
 use Rattle.mv_engine.proofs.ServedLemmas.{broken}
 use Rattle.mv_engine.proofs.input.Input.answer_block.Goals as goal
 

@@ -1,5 +1,4 @@
-use Rattle.std.proofs.Common.{refl}
-use Rattle.mv_engine.proofs.Words.{err_from_is_err_and}
+use Rattle.mv_engine.proofs.Words.{refl, err_from_is_err_and}
 use Rattle.mv_engine.proofs.ServedLemmas.{broken}
 use Rattle.mv_engine.proofs.input.Input.answer_last.Goals as goal
 

@@ -1,5 +1,4 @@
-use Rattle.std.proofs.Common.{[]}
-use Rattle.mv_engine.proofs.Words.{err_from_is_err_and}
+use Rattle.mv_engine.proofs.Words.{[], err_from_is_err_and}
 use Rattle.mv_engine.proofs.InputLemmas.{none_added, part_unanswered}
 use Rattle.mv_engine.proofs.PartLemmas.{unended_nil}
 use Rattle.mv_engine.proofs.input.Input.finish.Goals as goal

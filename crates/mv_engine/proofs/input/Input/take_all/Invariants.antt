@@ -1,5 +1,4 @@
-use Rattle.std.proofs.Common.{◌≡◌, ℕ, List, ◌++◌, length}
-use Rattle.mv_engine.proofs.Words.{Taken}
+use Rattle.mv_engine.proofs.Words.{◌≡◌, ℕ, List, ◌++◌, length, Taken}
 use Rattle.mv_engine.proofs.input.Input.take_all.Given as goal
 
 -- the bytes so far are taken

@@ -1,5 +1,4 @@
-use Rattle.std.proofs.Common.{arith, refl, []}
-use Rattle.mv_engine.proofs.Words.{common_steps, err_from_is_err_and}
+use Rattle.mv_engine.proofs.Words.{arith, refl, [], common_steps, err_from_is_err_and}
 use Rattle.mv_engine.proofs.InputLemmas.{none_added, none_may_follow, part_unanswered, stopped_in, line_taken}
 use Rattle.mv_engine.proofs.input.Input.take_line.Goals as goal
 

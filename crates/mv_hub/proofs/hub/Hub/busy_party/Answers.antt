@@ -1,5 +1,4 @@
-use Rattle.std.proofs.Common.{◌≡◌, ℕ, ◌||◌, ◌&&◌, arith, ◌==◌}
-use Rattle.mv_hub.proofs.Words.{cases_eq, has_party, is_open, is_reached, nat_tests}
+use Rattle.mv_hub.proofs.Words.{◌≡◌, ℕ, ◌||◌, ◌&&◌, arith, ◌==◌, cases_eq, has_party, is_open, is_reached, nat_tests}
 use Rattle.mv_hub.proofs.HubLemmas.{busy_among, open_at, reached_below}
 use Rattle.mv_hub.proofs.hub.Hub.busy_party.Goals as goal
 

@@ -1,5 +1,4 @@
-use Rattle.std.proofs.Common.{◌≡◌, ◌<◌, ℕ, true, length, find}
-use Rattle.mv_hub.proofs.Words.{busy_party, has_party, is_busy, parties_in}
+use Rattle.mv_hub.proofs.Words.{◌≡◌, ◌<◌, ℕ, true, length, find, busy_party, has_party, is_busy, parties_in}
 use Rattle.mv_hub.proofs.hub.Hub.busy_party.Given as goal
 
 abbrev pub invariant-loop-to : goal.invariant-loop-to

@@ -1,5 +1,4 @@
-use Rattle.std.proofs.Common.{◌∙◌, ap}
-use Rattle.mv_hub.proofs.Words.{Sending, err_from_is_err_and, new_sending}
+use Rattle.mv_hub.proofs.Words.{◌∙◌, ap, Sending, err_from_is_err_and, new_sending}
 use Rattle.mv_hub.proofs.HubLemmas.{view_relayed, view_put_back}
 use Rattle.mv_hub.proofs.hub.Hub.relay.Goals as goal
 

@@ -1,5 +1,4 @@
-use Rattle.std.proofs.Common.{◌∙◌, ◌++◌, length, sym, ap, append_assoc, arith, replicate}
-use Rattle.mv_hub.proofs.Words.{and_parts, carried_by, new_sending, parties_in, receipt_to}
+use Rattle.mv_hub.proofs.Words.{◌∙◌, ◌++◌, length, sym, ap, append_assoc, arith, replicate, and_parts, carried_by, new_sending, parties_in, receipt_to}
 use Rattle.mv_hub.proofs.LinksLemmas.{row-same, row-one, row-then, carried-more, pop-equal}
 use Rattle.mv_hub.proofs.hub.gains.put_gains.Goals as goal
 

@@ -1,5 +1,4 @@
-use Rattle.std.proofs.Common.{◌≡◌, ℕ, ◌&&◌, not, true, cond, ◌∷◌, ◌++◌, length, replicate, []}
-use Rattle.mv_hub.proofs.Words.{PushesRow, carried_by, has_party, parties_in, receipt_to}
+use Rattle.mv_hub.proofs.Words.{◌≡◌, ℕ, ◌&&◌, not, true, cond, ◌∷◌, ◌++◌, length, replicate, [], PushesRow, carried_by, has_party, parties_in, receipt_to}
 use Rattle.mv_hub.proofs.hub.gains.put_gains.Given as goal
 
 abbrev pub invariant-loop-to : goal.invariant-loop-to

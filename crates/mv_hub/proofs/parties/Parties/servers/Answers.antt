@@ -1,5 +1,4 @@
-use Rattle.std.proofs.Common.{◌≡◌, ◌∙◌, true, refl, arith}
-use Rattle.mv_hub.proofs.Words.{eq-eqb, has_market, served_by}
+use Rattle.mv_hub.proofs.Words.{◌≡◌, ◌∙◌, true, refl, arith, eq-eqb, has_market, served_by}
 use Rattle.mv_hub.proofs.PartiesLemmas.{server_is_party}
 use Rattle.mv_hub.proofs.parties.Parties.servers.Goals as goal
 

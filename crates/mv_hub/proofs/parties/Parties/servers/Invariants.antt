@@ -1,5 +1,4 @@
-use Rattle.std.proofs.Common.{◌≡◌, ℕ, ◌&&◌, length, take, nat_lt}
-use Rattle.mv_hub.proofs.Words.{has_party, served_by, serves_one}
+use Rattle.mv_hub.proofs.Words.{◌≡◌, ℕ, ◌&&◌, length, take, nat_lt, has_party, served_by, serves_one}
 use Rattle.mv_hub.proofs.parties.Parties.servers.Given as goal
 
 abbrev pub invariant-loop-market : goal.invariant-loop-market

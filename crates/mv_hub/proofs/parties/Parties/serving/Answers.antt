@@ -1,5 +1,4 @@
-use Rattle.std.proofs.Common.{arith}
-use Rattle.mv_hub.proofs.Words.{listed-in}
+use Rattle.mv_hub.proofs.Words.{arith, listed-in}
 use Rattle.mv_hub.proofs.parties.Parties.serving.Goals as goal
 
 pub returns : goal.returns

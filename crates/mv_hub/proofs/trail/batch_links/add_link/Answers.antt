@@ -1,5 +1,4 @@
-use Rattle.std.proofs.Common.{[], ◌∷◌, ◌∙◌, rules}
-use Rattle.mv_hub.proofs.Words.{err_from_is_err_and}
+use Rattle.mv_hub.proofs.Words.{[], ◌∷◌, ◌∙◌, rules, err_from_is_err_and}
 use Rattle.mv_hub.proofs.TrailLemmas.{linked-put}
 use Rattle.mv_hub.proofs.trail.batch_links.add_link.Goals as goal
 

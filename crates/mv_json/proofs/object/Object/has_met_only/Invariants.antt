@@ -1,5 +1,4 @@
-use Rattle.std.proofs.Common.{All, take}
-use Rattle.mv_json.proofs.Words.{IsOneOf}
+use Rattle.mv_json.proofs.Words.{All, take, IsOneOf}
 use Rattle.mv_json.proofs.object.Object.has_met_only.Given as goal
 
 -- each field so far is one of these

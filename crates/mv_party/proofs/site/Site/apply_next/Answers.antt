@@ -1,6 +1,5 @@
 -- The item, the answer and the count go in together.
-use Rattle.std.proofs.Common.{◌≡◌, ◌<◌, ◌+◌, ◌++◌, length, Ok, ap, sym, subst, ◌∙◌, option_to_list}
-use Rattle.mv_party.proofs.Words.{SiteState, answer_fault, answer_to, entry_from, unless_fault}
+use Rattle.mv_party.proofs.Words.{◌≡◌, ◌<◌, ◌+◌, ◌++◌, length, Ok, ap, sym, subst, ◌∙◌, option_to_list, SiteState, answer_fault, answer_to, entry_from, unless_fault}
 use Rattle.std.proofs.lemmas.List.{get_or_read}
 use Rattle.mv_party.proofs.SiteLemmas.{applied-kept}
 use Rattle.mv_party.proofs.site.Site.apply_next.Goals as goal

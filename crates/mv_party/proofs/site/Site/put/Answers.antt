@@ -1,6 +1,5 @@
 -- One more submission.
-use Rattle.std.proofs.Common.{◌<◌, ◌++◌, ◌∷◌, [], length, ap, sym, subst, ◌∙◌}
-use Rattle.mv_party.proofs.Words.{SiteState, site_of}
+use Rattle.mv_party.proofs.Words.{◌<◌, ◌++◌, ◌∷◌, [], length, ap, sym, subst, ◌∙◌, SiteState, site_of}
 use Rattle.mv_party.proofs.SiteLemmas.{submitted-kept}
 use Rattle.mv_party.proofs.site.Site.put.Goals as goal
 

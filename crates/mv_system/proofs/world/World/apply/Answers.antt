@@ -1,6 +1,5 @@
-use Rattle.std.proofs.Common.{refl, set, Err, None, Some, sym, ap, ◌∙◌}
 use Rattle.std.proofs.lemmas.Result.{err_from_is_err_and}
-use Rattle.mv_system.proofs.Words.{Apply, and_parts, count_from, look_at, option_copied, put}
+use Rattle.mv_system.proofs.Words.{refl, set, Err, None, Some, sym, ap, ◌∙◌, Apply, and_parts, count_from, look_at, option_copied, put}
 use Rattle.mv_system.proofs.SystemLemmas.{Leaves, front_dropped, front_item, front_seen, left, site_back, site_read}
 use Rattle.mv_system.proofs.RowLemmas.{apply_done, apply_empty, apply_refused}
 use Rattle.mv_system.proofs.world.World.apply.Goals as goal

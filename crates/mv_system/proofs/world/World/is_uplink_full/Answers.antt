@@ -1,5 +1,4 @@
-use Rattle.std.proofs.Common.{length, arith, ap, ltb-true}
-use Rattle.mv_system.proofs.Words.{State, routed_count-few, submissions_of}
+use Rattle.mv_system.proofs.Words.{length, arith, ap, ltb-true, State, routed_count-few, submissions_of}
 use Rattle.mv_system.proofs.world.World.is_uplink_full.Goals as goal
 
 pub overflow_sub-waiting : goal.overflow_sub-waiting

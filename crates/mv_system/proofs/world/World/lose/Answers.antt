@@ -1,5 +1,4 @@
-use Rattle.std.proofs.Common.{sym, ◌∙◌}
-use Rattle.mv_system.proofs.Words.{Lose, Lost, put}
+use Rattle.mv_system.proofs.Words.{sym, ◌∙◌, Lose, Lost, put}
 use Rattle.mv_system.proofs.SystemLemmas.{Leaves, front_dropped, left}
 use Rattle.mv_system.proofs.RowLemmas.{lose_done}
 use Rattle.mv_system.proofs.world.World.lose.Goals as goal

@@ -1,5 +1,4 @@
-use Rattle.std.proofs.Common.{◌≡◌}
-use Rattle.mv_system.proofs.Words.{IsSystem, opening, state_of}
+use Rattle.mv_system.proofs.Words.{◌≡◌, IsSystem, opening, state_of}
 use Rattle.mv_system.proofs.OpeningLemmas.{opened}
 use Rattle.mv_system.proofs.world.World.open.Goals as goal
 use Rattle.mv_system.proofs.world.World.open.Goals.{In_ok-hub}

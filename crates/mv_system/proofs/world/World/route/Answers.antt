@@ -1,5 +1,4 @@
-use Rattle.std.proofs.Common.{length, ltb-true, slice_get, sym, ap, ◌∙◌}
-use Rattle.mv_system.proofs.Words.{SiteState, next_entry, option_copied, routed, routed_count}
+use Rattle.mv_system.proofs.Words.{length, ltb-true, slice_get, sym, ap, ◌∙◌, SiteState, next_entry, option_copied, routed, routed_count}
 use Rattle.mv_system.proofs.SystemLemmas.{changed, entries-short, site_read, wires_entered}
 use Rattle.mv_system.proofs.world.World.route.Goals as goal
 

@@ -1,5 +1,4 @@
-use Rattle.std.proofs.Common.{◌≡◌, ◌+◌, [], ◌∷◌, ◌++◌, take, rules, sym, ap, ◌∙◌, arith}
-use Rattle.mv_system.proofs.Words.{headline-same, headline_further, runs-push, take_more}
+use Rattle.mv_system.proofs.Words.{◌≡◌, ◌+◌, [], ◌∷◌, ◌++◌, take, rules, sym, ap, ◌∙◌, arith, headline-same, headline_further, runs-push, take_more}
 use Rattle.mv_system.proofs.world.World.run.Goals as goal
 
 -- One more step was taken, and one more reply noted.

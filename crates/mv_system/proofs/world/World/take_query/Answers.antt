@@ -1,5 +1,4 @@
-use Rattle.std.proofs.Common.{refl}
-use Rattle.mv_system.proofs.Words.{Query}
+use Rattle.mv_system.proofs.Words.{refl, Query}
 use Rattle.mv_system.proofs.SystemLemmas.{submitted_kept}
 use Rattle.mv_system.proofs.world.World.take_query.Goals as goal
 

@@ -1,5 +1,4 @@
-use Rattle.std.proofs.Common.{◌≡◌, ◌+◌, ◌≤◌, ◌++◌, List, length, map, vec_len}
-use Rattle.mv_workers.proofs.Words.{vec_capacity, into_iter_items, into_iter_len, AreSameRepos, AreBegun, Handle, end_of, work_of}
+use Rattle.mv_workers.proofs.Words.{◌≡◌, ◌+◌, ◌≤◌, ◌++◌, List, length, map, vec_len, vec_capacity, into_iter_items, into_iter_len, AreSameRepos, AreBegun, Handle, end_of, work_of}
 use Rattle.mv_workers.proofs.crew.Crew.join.Given as goal
 
 -- the ends so far are those of the first handles, and there is room for the others

@@ -1,6 +1,5 @@
 -- The handles so far are those of the first ends and lists.
-use Rattle.std.proofs.Common.{◌∙◌, ap, sym, arith}
-use Rattle.mv_workers.proofs.Words.{into_iter_items, end_of, work_of, work_at, lists_of, length-map}
+use Rattle.mv_workers.proofs.Words.{◌∙◌, ap, sym, arith, into_iter_items, end_of, work_of, work_at, lists_of, length-map}
 use Rattle.mv_workers.proofs.CrewLemmas.{started_more, all_started, unused_next}
 use Rattle.mv_workers.proofs.crew.Crew.start.Goals as goal
 

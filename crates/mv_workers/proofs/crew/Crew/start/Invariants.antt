@@ -1,5 +1,4 @@
-use Rattle.std.proofs.Common.{◌≡◌, ◌+◌, ◌≤◌, ◌++◌, map, vec_len}
-use Rattle.mv_workers.proofs.Words.{vec_capacity, into_iter_items, into_iter_len, lists_of, end_of, work_of}
+use Rattle.mv_workers.proofs.Words.{◌≡◌, ◌+◌, ◌≤◌, ◌++◌, map, vec_len, vec_capacity, into_iter_items, into_iter_len, lists_of, end_of, work_of}
 use Rattle.mv_workers.proofs.crew.Crew.start.Given as goal
 
 -- the handles so far are of the first ends and lists; there are as many lists left as ends, and room for their handles

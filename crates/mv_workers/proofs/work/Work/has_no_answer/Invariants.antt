@@ -1,5 +1,4 @@
-use Rattle.std.proofs.Common.{◌≡◌, ◌<◌, ℕ, [], get_or}
-use Rattle.mv_workers.proofs.Words.{answers_in, lists_of}
+use Rattle.mv_workers.proofs.Words.{◌≡◌, ◌<◌, ℕ, [], get_or, answers_in, lists_of}
 use Rattle.mv_workers.proofs.work.Work.has_no_answer.Given as goal
 
 abbrev pub invariant-loop-party : goal.invariant-loop-party

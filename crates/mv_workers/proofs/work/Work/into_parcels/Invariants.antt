@@ -1,5 +1,4 @@
-use Rattle.std.proofs.Common.{◌≡◌, ◌+◌, ◌≤◌, ◌++◌, vec_len}
-use Rattle.mv_workers.proofs.Words.{vec_capacity, into_iter_items, into_iter_len, lists_of}
+use Rattle.mv_workers.proofs.Words.{◌≡◌, ◌+◌, ◌≤◌, ◌++◌, vec_len, vec_capacity, into_iter_items, into_iter_len, lists_of}
 use Rattle.mv_workers.proofs.work.Work.into_parcels.Given as goal
 
 -- the lists so far are the first, and there is room for the others

@@ -28,4 +28,4 @@ pub use Rattle.std.proofs.lemmas.Map.Views.{Contains-from_any, any-filter_same}
 pub use Rattle.std.proofs.lemmas.Result.{err_from_is_err_and}
 pub use Rattle.std.proofs.lemmas.Slice.Eq.{bytes_eq-Decides}
 pub use Rattle.std.specs.List.{All, filter_map, last_or, list_any}
-pub use Rattle.std.specs.Option.{IsSome, option_or}
+pub use Rattle.std.specs.Option.{option_or}

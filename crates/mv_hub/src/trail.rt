@@ -83,7 +83,7 @@ impl AuditTrail {
     }
 }
 
-/// Puts into the tables what an entry says. Where memory is refused neither has changed.
+/// Puts into the tables what an entry says. Where memory is refused no catalogue and no link has changed.
 fn add_to_tables(
     alloc: Global,
     catalogues: &mut IndexMap<Gtin, Listed>,

@@ -22,6 +22,6 @@ pub use Rattle.serde_json.specs.Written.{compact_text, outline}
 pub use Rattle.std.specs.Cmp.Lexicographic.{slice_cmp}
 pub use Rattle.std.specs.List.{AllByRecursion, list_all, list_any}
 pub use Rattle.std.specs.List.Sorted.{IsStrictlySortedBy}
-pub use Rattle.std.specs.Option.{ok_or, option_copied, option_map_or, option_or, option_transpose}
+pub use Rattle.std.specs.Option.{ok_or, option_map_or, option_or, option_transpose}
 pub use Rattle.std.specs.Ordering.{nat_cmp}
 pub use Rattle.std.specs.Result.{result_err, result_map_both, result_ok}

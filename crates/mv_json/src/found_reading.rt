@@ -63,7 +63,8 @@ pub(crate) fn sighting_in(object: &Object<'_>) -> Option<Sighting>
     Some(Sighting { found, version })
 }
 
-/// What a value says was found, where an object has no other key than the fields of a pack: M5 of `found` where it is neither `null` nor a legal pack.
+/// What a value says was found: M5 of `found` where it is neither `null` nor a legal pack. A pack has no other key than its
+/// fields.
 #[tactic(auto, unfolding(crate::specs::Shapes::present_of))]
 fn found_of(value: &Value, version: Version) -> Result<Found, MessageFault>
     ensures gives { result ≡ found_of version (view value.now) }

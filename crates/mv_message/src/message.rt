@@ -51,7 +51,7 @@ impl Product {
 }
 
 /// What a party sends.
-#[derive(Debug, PartialEq, Eq)]
+#[derive(Debug, PartialEq, Eq, Drop)]
 pub enum Message {
     /// The product master: what is sold under a product code, and where.
     Master {
@@ -127,39 +127,6 @@ pub enum Message {
         /// What was found of the pack.
         found: Found,
     },
-}
-
-// Written here, so that the crates above prove nothing of how the parts of a message are dropped.
-impl Drop for Message {
-    fn drop(self) {
-        match self {
-            Self::Master { gtin, product } => {}
-            Self::Upload {
-                gtin,
-                batch,
-                expiry,
-                national,
-                serials,
-            } => {}
-            Self::Status { key, to, user, at } => {}
-            Self::Recall { key, at } => {}
-            Self::Repack {
-                before,
-                before_serials,
-                after,
-                after_serials,
-                at,
-            } => {}
-            Self::Withdraw { gtin, at } => {}
-            Self::Query { key } => {}
-            Self::Answer {
-                asker,
-                q,
-                key,
-                found,
-            } => {}
-        }
-    }
 }
 
 // Each message takes the place of the largest kind. What is kept for good is for the most part uploads.

@@ -123,7 +123,7 @@ fn plan_step(alloc: Global, draft: &mut Draft, step: &Step) -> Result<Option<Str
     }
 }
 
-/// The text of a line that is refused as such a step is.
+/// What `plan_request` gives for a line that is refused as such a step is: its text.
 fn refuse_step(alloc: Global, refusal: Refusal) -> Result<Option<String>, AllocError>
     ensures { IfOk result (λ text.
         option_map string_bytes text ≡ Some (compact_text (refusal_value refusal))) }
@@ -131,7 +131,7 @@ fn refuse_step(alloc: Global, refusal: Refusal) -> Result<Option<String>, AllocE
     Ok(Some(reply_text(alloc, &Reply::Refused(refusal))?))
 }
 
-/// The text of a line that is refused by what is open.
+/// What `plan_request` gives for a line that is refused by what is open: its text.
 fn refuse(alloc: Global, fault: OpenFault) -> Result<Option<String>, AllocError>
     ensures { IfOk result (λ text.
         option_map string_bytes text ≡ Some (compact_text (refused (code_of fault)))) }

@@ -25,7 +25,10 @@ pub(super) struct Listed {
 // Written here, so that no function beside this one proves how its parts are dropped.
 impl Drop for Listed {
     fn drop(self) {
-        let Self { catalogue, known } = self;
+        let Self {
+            catalogue: _,
+            known: _,
+        } = self;
     }
 }
 

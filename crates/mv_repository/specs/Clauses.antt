@@ -10,5 +10,4 @@ pub use Rattle.mv_repository.specs.Track.{batch_at, change_in, effect_in, effect
 pub use Rattle.mv_repository.specs.Stops.{AreStopsOf, HasFirst, comes_first, earlier_place, entry_at, entry_of, first_place, first_stops, is_before, is_stop, message_in, recalled_batches, standing_at, stopped_product, stops_in, withdrawn_products}
 pub use Rattle.mv_repository.specs.Verdict.{answer_after, answer_to, found_active, found_explained, found_of, joint_verdict, local_verdict, verdict_when}
 pub use Rattle.std.specs.List.Sorted.{IsPartitionPoint}
-pub use Rattle.std.specs.Prelude.{◌%◌, ◌++◌, ◌+◌, ◌<◌, ◌==◌, ◌↔◌, ◌∷◌, ◌≡◌, ◌≤◌}
 pub use Rattle.mv_repository.specs.Words.{APackKey, AllByRecursion, AnEntry, IfOk, IfSome, IsDistinct, IsTrue, List, MatchOption, OnErr, OnOk, Some, YieldsFirstRef, [], bytes_eq, distinct_count, drop, false, filter, fold, get_or, insert_key, item_count, keys_of, length, lookup, map, not, option_and_then, option_copied, option_map, take, true, unwrap_or, ℕ}

@@ -2,7 +2,8 @@
 //! over. It does not go through each of them: of a block of them it is known what it leaves of a pack that comes to it
 //! active, and whose reverts stand in it, since a pack that another changed goes through as it comes.
 
-ghost use Rattle.mv_repository.specs.Clauses.{◌≡◌, ◌≤◌, ◌<◌, ◌+◌, ◌%◌, AllByRecursion, AreBlocks, IfSome, IsCovered, IsCut, IsFront, IsSummary, List, drop, effect_in, entry_at, entry_in, fold, get_or, length, next_in, start_in, take, without, ℕ};
+ghost use Rattle.std.specs.Prelude.{◌≡◌, ◌≤◌, ◌<◌, ◌+◌, ◌%◌};
+ghost use Rattle.mv_repository.specs.Clauses.{AllByRecursion, AreBlocks, IfSome, IsCovered, IsCut, IsFront, IsSummary, List, drop, effect_in, entry_at, entry_in, fold, get_or, length, next_in, start_in, take, without, ℕ};
 
 use crate::entry::sender_at;
 use crate::state::{Basis, is_active, standing_by};

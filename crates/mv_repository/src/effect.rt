@@ -1,6 +1,7 @@
 //! What applying an item does. Each effect has its number, which replies print.
 
-ghost use Rattle.mv_repository.specs.Clauses.{◌≡◌, code_of};
+ghost use Rattle.std.specs.Prelude.{◌≡◌};
+ghost use Rattle.mv_repository.specs.Clauses.{code_of};
 
 /// What applying an item did, by the entries that stand before it in the order of stamps.
 #[derive(Clone, Copy, Debug, PartialEq, Eq)]

@@ -1,6 +1,7 @@
 //! What decides one pack, lent from a repository, and whether two have the same.
 
-ghost use Rattle.mv_repository.specs.Clauses.{◌≡◌, ◌↔◌, IsTrue, YieldsFirstRef, as_sent, entry_at, entry_of, history_at, item_count, map, option_and_then, option_copied, option_map, sent_in, sent_status};
+ghost use Rattle.std.specs.Prelude.{◌≡◌, ◌↔◌};
+ghost use Rattle.mv_repository.specs.Clauses.{IsTrue, YieldsFirstRef, as_sent, entry_at, entry_of, history_at, item_count, map, option_and_then, option_copied, option_map, sent_in, sent_status};
 
 use crate::LogEntry;
 use crate::entry::is_before;
@@ -148,9 +149,8 @@ pub struct Statuses<'a> {
 }
 
 impl<'a> Model for Statuses<'a> {
-    ghost use Rattle.mv_repository.specs.Words.{AllByRecursion, AnEntry, List, map};
+    ghost use Rattle.mv_repository.specs.Clauses.{AllByRecursion, AnEntry, List, entry_at, entry_of, map};
     ghost use Rattle.mv_repository.specs.Agreement.{IsAt};
-    ghost use Rattle.mv_repository.specs.Stops.{entry_at, entry_of};
 
     ghost Value = { List AnEntry };
 

@@ -3,7 +3,8 @@
 //!
 //! It stands apart since no other table bears on it: it changes at receipts of queries and at answers alone.
 
-ghost use Rattle.mv_repository.specs.Clauses.{◌≡◌, ◌≤◌, ◌∷◌, ◌++◌, AnEntry, HasRoom, IsInquiriesOf, List, OnOk, [], filter, has_reply, inquiry_after, joint_verdict, length, not, query_of, ℕ};
+ghost use Rattle.std.specs.Prelude.{◌≡◌, ◌≤◌, ◌∷◌, ◌++◌};
+ghost use Rattle.mv_repository.specs.Clauses.{AnEntry, HasRoom, IsInquiriesOf, List, OnOk, [], filter, has_reply, inquiry_after, joint_verdict, length, not, query_of, ℕ};
 
 use crate::Joint;
 use crate::verdict::{found_active, found_explained, verdict_when};

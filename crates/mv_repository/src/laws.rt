@@ -1,7 +1,8 @@
 //! Laws over the definitions alone. They hold of every log, also of one in which a stamp has more than 32 bits, as no item that a
 //! repository applies has; only that receipts stand behind all else needs stamps of 32 bits.
 
-ghost use Rattle.mv_repository.specs.Clauses.{◌≡◌, APackKey, AgreeOn, AnEntry, ChangeNamesStatus, HasDistinctStamps, HaveSameAbout, HaveSameEntries, HaveSameHistory, IsOrderOf, List, about, first_stops, first_upload, known_pack, ordered, pack_grown, statuses_of};
+ghost use Rattle.std.specs.Prelude.{◌≡◌};
+ghost use Rattle.mv_repository.specs.Clauses.{APackKey, AgreeOn, AnEntry, ChangeNamesStatus, HasDistinctStamps, HaveSameAbout, HaveSameEntries, HaveSameHistory, IsOrderOf, List, about, first_stops, first_upload, known_pack, ordered, pack_grown, statuses_of};
 
 /// The order has each entry of the log once, by stamp, and those of one stamp as they stand in the log.
 pub fn ordered_is_the_order()

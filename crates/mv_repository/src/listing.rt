@@ -1,6 +1,7 @@
 //! For each batch of a product the numbers of the tracks that may be of it: what a recall has to look at.
 
-ghost use Rattle.mv_repository.specs.Clauses.{◌≡◌, IfSome, List, MatchOption, OnOk, [], batch_at, has_number, is_in, lists, may_stop, option_and_then, true, ℕ};
+ghost use Rattle.std.specs.Prelude.{◌≡◌};
+ghost use Rattle.mv_repository.specs.Clauses.{IfSome, List, MatchOption, OnOk, [], batch_at, has_number, is_in, lists, may_stop, option_and_then, true, ℕ};
 
 use crate::LogEntry;
 use crate::entry::message_at;

@@ -1,6 +1,7 @@
 //! A national repository: its log, the tables of it, and what it knows of its own queries.
 
-ghost use Rattle.mv_repository.specs.Clauses.{◌≡◌, IfOk, OnErr, OnOk, [], answer_after, answer_to, batch_key, counts_of, effect_of, found_of, history_of, is_recalled, is_withdrawn, items_from, joint_verdict, local_verdict, new_repository, option_copied, pack_state, product_of, recalled_batches, serials_of, track_of, with_applied, withdrawn_products};
+ghost use Rattle.std.specs.Prelude.{◌≡◌};
+ghost use Rattle.mv_repository.specs.Clauses.{IfOk, OnErr, OnOk, [], answer_after, answer_to, batch_key, counts_of, effect_of, found_of, history_of, is_recalled, is_withdrawn, items_from, joint_verdict, local_verdict, new_repository, option_copied, pack_state, product_of, recalled_batches, serials_of, track_of, with_applied, withdrawn_products};
 
 use crate::entry::message_at;
 use crate::history::Places;

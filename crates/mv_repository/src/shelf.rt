@@ -1,6 +1,7 @@
 //! What is kept of each pack of one product, by serial numbers alone. This file knows no other product.
 
-ghost use Rattle.mv_repository.specs.Clauses.{◌≡◌, ◌<◌, ◌≤◌, ◌+◌, ◌==◌, AreStopsOf, IfOk, IsAgain, IsDistinct, IsRefreshed, IsShelfOf, IsTrack, IsUploadOf, List, OnErr, OnOk, Some, [], bare, batch_at, bytes_eq, comes_first, earlier_place, newest_effect, entry_at, false, get_or, insert_key, is_status_of, is_stop, kept_by, kept_in, keys_of, length, is_listed_in, may_stop, no_shelf, nothing_kept, slots_counted, stopped_product, stops_in, take, true, ℕ};
+ghost use Rattle.std.specs.Prelude.{◌≡◌, ◌<◌, ◌≤◌, ◌+◌, ◌==◌};
+ghost use Rattle.mv_repository.specs.Clauses.{AreStopsOf, IfOk, IsAgain, IsDistinct, IsRefreshed, IsShelfOf, IsTrack, IsUploadOf, List, OnErr, OnOk, Some, [], bare, batch_at, bytes_eq, comes_first, earlier_place, newest_effect, entry_at, false, get_or, insert_key, is_status_of, is_stop, kept_by, kept_in, keys_of, length, is_listed_in, may_stop, no_shelf, nothing_kept, slots_counted, stopped_product, stops_in, take, true, ℕ};
 
 use crate::Effect;
 use crate::entry::passes;

@@ -1,7 +1,8 @@
 //! The one place that decides what a status does: its effect on a pack that stands by an entry of the log, and by which entry
 //! the pack stands then.
 
-ghost use Rattle.mv_repository.specs.Clauses.{◌≡◌, ◌+◌, length, change_in, effect_in, effect_on, entry_at, entry_in, fold, held_at, is_active, next_in, revert_effect, standing_at, standing_in, start_in, stops_of};
+ghost use Rattle.std.specs.Prelude.{◌≡◌, ◌+◌, length};
+ghost use Rattle.mv_repository.specs.Clauses.{change_in, effect_in, effect_on, entry_at, entry_in, fold, held_at, is_active, next_in, revert_effect, standing_at, standing_in, start_in, stops_of};
 
 use crate::entry::{message_at, sender_at, stands_before};
 use crate::held::REVERT_SECONDS;

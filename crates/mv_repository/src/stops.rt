@@ -1,7 +1,8 @@
 //! What stops a batch for ever: for each batch the place in the log of its first recall by stamp, and for each product
 //! that of its first withdrawal.
 
-ghost use Rattle.mv_repository.specs.Clauses.{◌≡◌, ◌+◌, AreStopsOf, HasFirst, IfOk, OnErr, OnOk, comes_first, entry_at, first_place, is_stop, length, lookup, standing_at, stopped_product, stops_in, take, true};
+ghost use Rattle.std.specs.Prelude.{◌≡◌, ◌+◌};
+ghost use Rattle.mv_repository.specs.Clauses.{AreStopsOf, HasFirst, IfOk, OnErr, OnOk, comes_first, entry_at, first_place, is_stop, length, lookup, standing_at, stopped_product, stops_in, take, true};
 
 use crate::LogEntry;
 use crate::entry::{comes_first, is_before};

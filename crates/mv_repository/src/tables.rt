@@ -1,6 +1,7 @@
 //! The tables that a repository keeps of its log, and what one more entry does to them.
 
-ghost use Rattle.mv_repository.specs.Clauses.{◌≡◌, ◌+◌, AnEntry, AreMastersOf, AreTablesOf, IfOk, List, OnErr, OnOk, [], distinct_count, entry_at, filter, is_counted, is_master, is_same_pack, is_stop, length, newest_effect, take, track_of, true, uploaded_packs};
+ghost use Rattle.std.specs.Prelude.{◌≡◌, ◌+◌};
+ghost use Rattle.mv_repository.specs.Clauses.{AnEntry, AreMastersOf, AreTablesOf, IfOk, List, OnErr, OnOk, [], distinct_count, entry_at, filter, is_counted, is_master, is_same_pack, is_stop, length, newest_effect, take, track_of, true, uploaded_packs};
 
 use crate::entry::{message_at, passes};
 use crate::shelf::{Counted, Shelf};

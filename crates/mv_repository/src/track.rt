@@ -1,7 +1,8 @@
 //! What is kept of one pack: the place in the log of its first upload, its statuses in the order of stamps, and the entry by
 //! which the pack stands behind them. This file knows no other pack.
 
-ghost use Rattle.mv_repository.specs.Clauses.{◌≡◌, ◌≤◌, AreStopsOf, Ascends, IfOk, IsAgain, IsKept, IsTrack, OnErr, OnOk, [], IsPartitionPoint, bare, comes_first, earlier_place, newest_effect, entry_at, false, is_status_of, length, life_of, map, not, passes, stops_in, take, true, unwrap_or};
+ghost use Rattle.std.specs.Prelude.{◌≡◌, ◌≤◌};
+ghost use Rattle.mv_repository.specs.Clauses.{AreStopsOf, Ascends, IfOk, IsAgain, IsKept, IsTrack, OnErr, OnOk, [], IsPartitionPoint, bare, comes_first, earlier_place, newest_effect, entry_at, false, is_status_of, length, life_of, map, not, passes, stops_in, take, true, unwrap_or};
 
 use crate::blocks::{Block, put_late};
 use crate::entry::{comes_first, passes};

@@ -1,6 +1,7 @@
 //! Verdicts on packs: authentic or not.
 
-ghost use Rattle.mv_repository.specs.Clauses.{◌≡◌, found_active, found_explained, verdict_when};
+ghost use Rattle.std.specs.Prelude.{◌≡◌};
+ghost use Rattle.mv_repository.specs.Clauses.{found_active, found_explained, verdict_when};
 
 use crate::state::is_active;
 use mv_message::{Found, Standing};

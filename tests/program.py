@@ -8,7 +8,8 @@ from pathlib import Path
 
 TOP = Path(__file__).resolve().parent.parent
 EXAMPLES = TOP / "examples"
-DOCUMENTS = [TOP / "README.md", *sorted((TOP / "docs").rglob("*.md")), *(TOP / it / "README.md" for it in ("examples", "bench/plain"))]
+PAGES = [TOP / "README.md", *(TOP / it / "README.md" for it in ("examples", "bench/plain")), *sorted((TOP / "crates").glob("*/README.md"))]
+DOCUMENTS = [*sorted((TOP / "docs").rglob("*.md")), *PAGES]
 PROGRAM = TOP / "crates/mvhub/out/mvhub"
 WHOLE_RUNS = TOP / "crates/whole_runs/out/whole_runs"
 SHORT_EXAMPLES = {

@@ -1,0 +1,26 @@
+//! Limits are read from numbers, and every run keeps them.
+
+ghost use Rattle.std.specs.Prelude.{◌≡◌, IfErr, IfOk};
+ghost use Rattle.mv_machine.specs.Bounded.{KeepsLimits};
+ghost use Rattle.mv_machine.specs.Laws.{InRuns};
+ghost use Rattle.mv_machine.specs.Limits.{code_of, limits_of};
+ghost use Rattle.mv_machine.specs.declared.limits.LimitsFault.{LimitsFault as AFault};
+
+use mv_machine::{Limits, LimitsFault, limits_are_kept};
+
+/// The limits of these numbers, or the code of the first number that is out of its range. Whatever steps a system takes, it keeps the
+/// limits that it was opened with.
+pub fn limits_or_code(
+    window: u32,
+    wire: u32,
+    uplink: u32,
+    submissions: u32,
+) -> Result<Limits, &'static str>
+    ensures ok { IfOk result (λ limits. limits_of window wire uplink submissions ≡ Ok limits) }
+    ensures err { IfErr result (λ code. (fault : AFault)
+        × (limits_of window wire uplink submissions ≡ Err fault) × (code.now ≡ code_of fault)) }
+    ensures kept { InRuns KeepsLimits }
+{
+    limits_are_kept();
+    Limits::of(window, wire, uplink, submissions).map_err(LimitsFault::code)
+}

@@ -7,7 +7,7 @@ use Rattle.mv_engine.specs.declared.fault.ServeFault.{ServeFault}
 use Rattle.mv_engine.specs.declared.fault.ServeFault.TheVariants as faults
 use Rattle.mv_engine.specs.Lines.{Line}
 use Rattle.mv_engine.specs.Replies.{AreReplies, GotNoReply}
-use Rattle.mv_engine.specs.Served.{AreAnswered, Ended, EndedAt, Served, StoppedAt}
+use Rattle.mv_engine.specs.Served.{AreAnswered, Ended, EndedAt, Served, StoppedAt, TookAtMostOne}
 use Rattle.mv_format.specs.ReplyLines.{is_refused}
 use Rattle.mv_lines.specs.Sessions.{IsReply, IsTaken, Open}
 use Rattle.mv_checks.specs.Strict.{IsStrictReply, Strict, tallied}
@@ -28,9 +28,11 @@ uncounted {before = before} {after = after} answered =
     record { kept = answered.kept; replied = (texts, is, replies_uncounted before after _ texts replies) }
 
 -- nor is it where a line got no reply
-unanswered_uncounted : (before after : Strict) (line : Line) → GotNoReply IsStrictReply before line after → GotNoReply IsReply before.0 line after.0
-unanswered_uncounted before after line (inl same) = inl (ap (λ (s : Strict). s.0) same)
-unanswered_uncounted before after line (inr (text, (answered, taken, text_is, counted))) = inr (text, (answered, taken, text_is))
+took_uncounted : (count : ℕ) (before after : Strict) (ps : List (List ℕ)) → TookAtMostOne IsStrictReply count before ps after
+    → TookAtMostOne IsReply count before.0 ps after.0
+took_uncounted count before after ps (inl same) = inl (ap (λ (s : Strict). s.0) same)
+took_uncounted count before after ps (inr (next, rest, first, line, is, text, (answered, taken, text_is, counted))) =
+    inr (next, rest, first, line, is, text, (answered, taken, text_is))
 
 -- of a run that answered its whole input
 served_uncounted : (before after : Strict) (bytes : List ℕ) (old new : Option (List ℕ)) → Served IsStrictReply before bytes after old new
@@ -38,16 +40,18 @@ served_uncounted : (before after : Strict) (bytes : List ℕ) (old new : Option 
 served_uncounted before after bytes old new (out, written, answered) = (out, written, uncounted answered)
 
 -- of one that stopped at a place
-stopped_uncounted : (fault : ServeFault) (before after : Strict) (bytes out : List ℕ) → StoppedAt IsStrictReply fault [] 0 before bytes after out
-    → StoppedAt IsReply fault [] 0 before.0 bytes after.0 out
-stopped_uncounted fault before after bytes out stopped = record {
+stopped_uncounted : (fault : ServeFault) (before after : Strict) (bytes : List ℕ) (ps : List (List ℕ)) (out : List ℕ)
+    → StoppedAt IsStrictReply fault [] 0 before bytes ps after out → StoppedAt IsReply fault [] 0 before.0 bytes ps after.0 out
+stopped_uncounted fault before after bytes ps out stopped = record {
   good = stopped.good;
   bad = stopped.bad;
   cut = stopped.cut;
   why = stopped.why;
+  unanswered = stopped.unanswered;
+  parted = stopped.parted;
   behind = stopped.behind.0;
   answered = uncounted stopped.answered;
-  left = unanswered_uncounted stopped.behind after _ stopped.left;
+  left = took_uncounted _ stopped.behind after _ stopped.left;
   left_alone = λ other. ap (λ (s : Strict). s.0) (stopped.left_alone other);
 }
 
@@ -63,10 +67,9 @@ ended_uncounted faults.Write before after bytes old new wrote = record {
   behind = wrote.behind.0;
   answered = uncounted wrote.answered;
   written = wrote.written;
-  next = wrote.next;
-  left = unanswered_uncounted wrote.behind after _ wrote.left;
+  left = took_uncounted _ wrote.behind after _ wrote.left;
 }
-ended_uncounted fault before after bytes old new at_end = (at_end.0, at_end.1, stopped_uncounted fault before after bytes at_end.0 at_end.2)
+ended_uncounted fault before after bytes old new at_end = (at_end.0, at_end.1, stopped_uncounted fault before after bytes _ at_end.0 at_end.2)
 
 module _ (before after : Strict) (world : Open) (begins : before.0 ≡ world) (old new : Option (List ℕ)) where
   -- the same of a run over an input that may be known

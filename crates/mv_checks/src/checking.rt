@@ -1,8 +1,8 @@
 //! Checks messages, a line each.
 
 ghost use Rattle.std.specs.Prelude.{◌≡◌, ℕ, List, true, IfOk, IfErr, IfSome};
-ghost use Rattle.std.specs.Io.KnownBytes.{Appends, Consumes};
-ghost use Rattle.mv_engine.specs.Served.{Served, Ended};
+ghost use Rattle.std.specs.Io.KnownBytes.{Appends};
+ghost use Rattle.mv_engine.specs.Served.{Served, EndedBy};
 ghost use Rattle.mv_checks.specs.Checks.{IsChecked, are_messages, refusals_of};
 
 use json::Scratch;
@@ -66,9 +66,8 @@ pub fn check<R: Read, W: Write>(
     ensures ok { IfOk result (λ all_messages. IfSome (R.remaining reader.old) (λ bytes.
         Served IsChecked true bytes all_messages (W.contents writer.old) (W.contents writer.new))) }
     // The bytes are those that were read. The refusals of which of their lines went out, the fault says.
-    ensures err { IfErr result (λ fault. (bytes : List ℕ)
-        × Consumes (R.remaining reader.old) (R.remaining reader.new) bytes
-        × Ended IsChecked fault true bytes (W.contents writer.old) (W.contents writer.new)) }
+    ensures err { IfErr result (λ fault. EndedBy IsChecked fault true
+        (R.remaining reader.old) (R.remaining reader.new) (W.contents writer.old) (W.contents writer.new)) }
 {
     let mut checker = Checker {
         alloc,

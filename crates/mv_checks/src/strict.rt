@@ -2,7 +2,7 @@
 
 ghost use Rattle.std.specs.Prelude.{◌≡◌, ℕ, List, None, Some, OnOk, IfErr, IfSome, if◌then◌else◌};
 ghost use Rattle.std.specs.Io.KnownBytes.{Consumes};
-ghost use Rattle.mv_engine.specs.Served.{Served, Ended, EndedAt};
+ghost use Rattle.mv_engine.specs.Served.{AllServed, Served, EndedAt, EndedBy};
 ghost use Rattle.mv_lines.specs.Sessions.{Open, IsReply};
 ghost use Rattle.mv_checks.specs.Strict.{IsStrictReply, tallied};
 
@@ -85,11 +85,10 @@ fn tally(untaken: Option<Untaken>, number: u32, is_refused: bool) -> Option<Unta
 /// It is the last thing in a process: what is open at the end is not taken apart, since the process gives all its memory back at once.
 pub fn serve_strict<R: Read, W: Write>(alloc: Global, reader: &mut R, writer: &mut W) -> StrictRun
     // The replies are those of `serve`.
-    ensures served { OnOk result.ended (IfSome (R.remaining reader.old) (λ bytes. (after : Open)
-        × Served IsReply None bytes after (W.contents writer.old) (W.contents writer.new))) }
-    ensures ended { IfErr result.ended (λ fault. (bytes : List ℕ)
-        × Consumes (R.remaining reader.old) (R.remaining reader.new) bytes
-        × Ended IsReply fault None bytes (W.contents writer.old) (W.contents writer.new)) }
+    ensures served { OnOk result.ended (AllServed IsReply None
+        (R.remaining reader.old) (W.contents writer.old) (W.contents writer.new)) }
+    ensures ended { IfErr result.ended (λ fault. EndedBy IsReply fault None
+        (R.remaining reader.old) (R.remaining reader.new) (W.contents writer.old) (W.contents writer.new)) }
     // The lines that were not taken are those of these replies.
     ensures ok { OnOk result.ended (IfSome (R.remaining reader.old) (λ bytes. (after : Open)
         × Served IsStrictReply (None, None) bytes (after, result.untaken)

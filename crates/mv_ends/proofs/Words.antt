@@ -1,9 +1,11 @@
 -- The names of the library, of the definitions, and of the crates below that several files take, passed on from one place. Declares nothing.
 pub use Rattle.mv_ends.specs.HubEnd.{HubSeat, IsUnchanged, Routes, SameHubEnd, hub_seat}
 pub use Rattle.mv_ends.specs.RepoEnd.{Applies, IsRepoUnchanged, SameRepoEnd, Submits, TakesFrame, repo_seat, stands_to}
-pub use Rattle.mv_ends.specs.Rings.{AreEmpty, AreLinks, Inlet, IsFront, Outlet, each_row, inflow_of, is_full, ring_put, ring_taken, table_of, with_frame, with_item}
-pub use Rattle.mv_ends.specs.Valid.{AreAccepted, AreOfLinks, AreWithin, TookAll}
-pub use Rattle.mv_ends.specs.Whole.{AreEnds, IsOpened, IsOutcome, IsSeatOf, sites_of, state_of}
+pub use Rattle.mv_ends.specs.Rings.{IsFront, Outlet, is_full, ring_put, with_frame, with_item}
+pub use Rattle.mv_ends.specs.inside.Rings.{AreEmpty, AreLinks, Inlet, each_row, inflow_of, ring_taken, table_of}
+pub use Rattle.mv_ends.specs.inside.Valid.{AreAccepted, AreOfLinks, AreWithin, TookAll}
+pub use Rattle.mv_ends.specs.Whole.{AreEnds, IsSeatOf, sites_of, state_of}
+pub use Rattle.mv_ends.specs.inside.Whole.{IsOpened, IsOutcome}
 pub use Rattle.mv_ends.specs.declared.hub_end.HubEnd.{HubEnd}
 pub use Rattle.mv_ends.specs.declared.repo_end.RepoEnd.{RepoEnd}
 pub use Rattle.mv_hub.specs.Hub.{HubState, close_fault, items_on, new_hub}

@@ -1,17 +1,13 @@
 -- Rings, by what their two ends show of them.
-use Rattle.std.specs.Prelude.{◌≡◌, ◌==◌, ◌<◌, ℕ, List, [], ◌∷◌, ◌++◌, Bool, length, map, slice_index_or, slice_set}
-use Rattle.mv_ends.specs.Words.{All, IsPrefix, Global, Vec, sent, received, known_free, known_items, producer_capacity, consumer_capacity, cell, put, Frame}
+use Rattle.std.specs.Prelude.{◌≡◌, ◌==◌, ◌<◌, ℕ, List, [], ◌∷◌, ◌++◌, Bool, length, slice_index_or, slice_set}
+use Rattle.mv_ends.specs.Words.{IsPrefix, Global, known_free, producer_capacity, cell, put, Frame}
 use denote.RawPtr.{Ptr}
 use Rattle.rtrb.specs.declared.producer.Producer.{Producer}
-use Rattle.rtrb.specs.declared.consumer.Consumer.{Consumer}
 use Rattle.rtrb.specs.declared.AnyItems.{AnyItems}
 
 -- the end of a ring that is put on, and the one that is taken from
 abbrev pub Outlet : Type 0 → Type 0
 Outlet T = Producer T Global AnyItems
-
-abbrev pub Inlet : Type 0 → Type 0
-Inlet T = Consumer T Global AnyItems
 
 -- A ring, as both of its ends name it, and how much it holds.
 pub record Ring : Type 0 where
@@ -25,9 +21,6 @@ pub record Ring : Type 0 where
 abbrev pub ring_put : {T : Type 0} → Outlet T → Ring
 ring_put end = record { words = end.end.words; slots = end.end.slots; names = end.end.names; heap = end.end.heap; size = producer_capacity end }
 
-abbrev pub ring_taken : {T : Type 0} → Inlet T → Ring
-ring_taken end = record { words = end.end.words; slots = end.end.slots; names = end.end.names; heap = end.end.heap; size = consumer_capacity end }
-
 -- the ring was full when it was last looked at
 abbrev pub is_full : {T : Type 0} → Outlet T → Bool
 is_full end = known_free end == 0
@@ -39,9 +32,6 @@ pub record Inflow (T : Type 0) : Type 0 where
   pub taken : List (List T)
   pub known : List (List T)
 
-abbrev pub inflow_of : {T : Type 0} → List (Inlet T) → Inflow T
-inflow_of ends = record { rings = map ring_taken ends; taken = map received ends; known = map known_items ends }
-
 -- What is seen of the hub's ends of the links, by the party to which and then the one from which: what was put on each ring, and how much
 -- room it is known to have.
 pub record WireTable : Type 0 where
@@ -49,22 +39,11 @@ pub record WireTable : Type 0 where
   pub put : List (List (List Frame))
   pub free : List (List ℕ)
 
--- what all ends show of something, row by row
-abbrev pub each_row : {A : Type 0} → (Outlet Frame → A) → List (Vec (Outlet Frame) Global) → List (List A)
-each_row f rows = map (λ (row : Vec (Outlet Frame) Global). map f row.items) rows
-
-abbrev pub table_of : List (Vec (Outlet Frame) Global) → WireTable
-table_of rows = record { rings = each_row ring_put rows; put = each_row sent rows; free = each_row known_free rows }
-
 -- the lists with one more item at the end of one
 abbrev pub with_item : {A : Type 0} → List (List A) → ℕ → A → List (List A)
 with_item lists place item = slice_set lists place (slice_index_or lists place [] ++ item ∷ [])
 
 module _ {T : Type 0} where
-  -- something is seen on the ring from a party
-  abbrev pub HasFront : Inflow T → ℕ → Type 0
-  HasFront inlets from = 0 < length (slice_index_or inlets.known from [])
-
   -- the ring from a party was empty when it was last looked at
   abbrev pub IsEmptyFrom : Inflow T → ℕ → Type 0
   IsEmptyFrom inlets from = (absent : List T) → length (slice_index_or inlets.known from absent) ≡ 0
@@ -84,16 +63,3 @@ IsFullOn wires from to = (absent : ℕ) → cell wires.free to from absent ≡ 0
 -- the wires with one more frame put on the ring of a link
 abbrev pub with_frame : List (List (List Frame)) → ℕ → ℕ → Frame → List (List (List Frame))
 with_frame wires from to frame = put wires to from (cell wires to from [] ++ frame ∷ [])
-
--- nothing was put on any ring, or taken from it
-abbrev pub AreEmpty : {A : Type 0} → List (List A) → Type 0
-AreEmpty lists = (from : ℕ) → slice_index_or lists from [] ≡ []
-
--- the two ends of the links to one party from so many, which hold so many frames each and were not used yet
-pub record AreLinks (count room : ℕ) (row : List (Outlet Frame)) (inlets : Inflow Frame) : Type 0 where
-  pub wide : length row ≡ count
-  pub each : length inlets.taken ≡ count
-  pub rings : inlets.rings ≡ map ring_put row
-  pub size : All (λ (ring : Ring). ring.size ≡ room) inlets.rings
-  pub unused : AreEmpty (map sent row)
-  pub untaken : AreEmpty inlets.taken

@@ -1,32 +1,12 @@
 -- All ends of one opening, and what they are as the lists of the list machine.
-use Rattle.std.specs.Prelude.{◌≡◌, ℕ, ◌<◌, ◌∷◌, ◌++◌, List, [], length, map, slice_index_or}
-use Rattle.mv_ends.specs.Words.{All, Bounds, Frame, Global, Message, Vec, new_site, received, SiteState, IsLawful, IsWellFormed}
+use Rattle.std.specs.Prelude.{◌≡◌, ℕ, ◌<◌, List, length, map, slice_index_or}
+use Rattle.mv_ends.specs.Words.{All, new_site, SiteState}
 use Rattle.mv_machine.specs.State.{State, opening}
 use Rattle.mv_ends.specs.declared.hub_end.HubEnd.{HubEnd}
-use Rattle.mv_ends.specs.declared.opening.Opened.{Opened}
 use Rattle.mv_ends.specs.declared.repo_end.RepoEnd.{RepoEnd}
-use Rattle.mv_ends.specs.Rings.{AreLinks, Inlet, Outlet, Ring, ring_put, ring_taken}
+use Rattle.mv_ends.specs.Rings.{Ring}
 use Rattle.mv_ends.specs.HubEnd.{HubSeat, hub_seat}
 use Rattle.mv_ends.specs.RepoEnd.{RepoSeat, repo_seat}
-
--- the ends that were opened for one of so many parties, by the limits of the system: its own, the hub's of its uplink, and the hub's of the
--- links to it
-pub record IsOpened (party count : ℕ) (limits : Bounds) (repo : RepoEnd) (uplink : Inlet Message) (row : List (Outlet Frame)) : Type 0 where
-  pub site : repo.site ≡ new_site party count limits.submissions
-  pub pair : ring_put repo.uplink ≡ ring_taken uplink
-  pub untaken : received uplink ≡ []
-  pub size : (ring_put repo.uplink).size ≡ limits.uplink
-  pub links : AreLinks count limits.wire row repo.inlets
-
--- the ends that were opened for the parties so far, with those of the next
-pub record AddsOpened (party count : ℕ) (limits : Bounds) (old new : Opened) : Type 0 where
-  pub repo : RepoEnd
-  pub uplink : Inlet Message
-  pub row : Vec (Outlet Frame) Global
-  pub opened : IsOpened party count limits repo uplink row.items
-  pub uplinks : new.uplinks.items ≡ old.uplinks.items ++ uplink ∷ []
-  pub rows : new.rows.items ≡ old.rows.items ++ row ∷ []
-  pub repos : new.repos.items ≡ old.repos.items ++ repo ∷ []
 
 -- What stays of a repository's end is that of a party at this end of the hub: it holds the other ends of the hub's rings to and from the
 -- party, one to it from each, which are of the sizes that the limits give.
@@ -51,9 +31,3 @@ sites_of repos = map (λ (repo : RepoEnd). repo.site) repos
 -- the lists that all ends have together. Nothing is under way: what was left on the rings is not taken any more.
 abbrev pub state_of : HubEnd → List RepoEnd → State
 state_of end repos = record (opening end.hub.parties end.limits) { hub = end.hub; sites = sites_of repos }
-
--- what an outcome keeps
-pub record IsOutcome (end : HubEnd) (repos : List RepoEnd) : Type 0 where
-  pub ends : AreEnds end repos
-  pub well_formed : IsWellFormed (state_of end repos)
-  pub lawful : IsLawful (state_of end repos)

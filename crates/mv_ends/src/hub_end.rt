@@ -3,7 +3,7 @@
 ghost use Rattle.std.specs.Prelude.{◌≡◌, ◌<◌, ℕ, [], length, slice_index_or, Option, None, Some, IfOk, IfSome, IsTrue, false};
 ghost use Rattle.mv_machine.specs.Lawful.{IsLawfulRecord};
 ghost use Rattle.mv_pairs.specs.Pairs.{IsSquare};
-ghost use Rattle.mv_ends.specs.Valid.{TookAll, AreOfLinks, AreWithin, IsLawfulRecord-prop};
+ghost use Rattle.mv_ends.specs.inside.Valid.{TookAll, AreOfLinks, AreWithin, IsLawfulRecord-prop};
 
 use crate::inlets::Inlets;
 use crate::parcel::Parcel;
@@ -60,7 +60,8 @@ impl HubEnd {
     ghost use Rattle.mv_ends.specs.Words.{IsFrameOf, new_hub, are_parties, items_on};
     ghost use Rattle.mv_hub.specs.declared.fault.HubFault.{HubFault as AFault};
     ghost use Rattle.mv_hub.specs.declared.fault.HubFault.TheVariants.{StrangerParty};
-    ghost use Rattle.mv_ends.specs.Rings.{AreEmpty, HasRoomOn, with_frame};
+    ghost use Rattle.mv_ends.specs.Rings.{HasRoomOn, with_frame};
+    ghost use Rattle.mv_ends.specs.inside.Rings.{AreEmpty};
     ghost use Rattle.mv_ends.specs.HubEnd.{hub_seat, SameHubEnd, IsUnchanged, IsPutRefused, Routes, Relays, Repeats, Closes};
     ghost use Rattle.mv_ends.specs.RepoEnd.{repo_seat, SameRepoEnd, IsRepoUnchanged};
     ghost use Rattle.mv_ends.specs.Whole.{IsSeatOf};

@@ -18,7 +18,8 @@ pub struct Inlets<T> {
 }
 
 impl<T> Model for Inlets<T> {
-    ghost use Rattle.mv_ends.specs.Rings.{Inflow, inflow_of};
+    ghost use Rattle.mv_ends.specs.Rings.{Inflow};
+    ghost use Rattle.mv_ends.specs.inside.Rings.{inflow_of};
 
     ghost Value = { Inflow T };
 
@@ -27,7 +28,8 @@ impl<T> Model for Inlets<T> {
 
 impl<T: Drop> Inlets<T> {
     ghost use Rattle.rtrb.specs.Ring.{sent};
-    ghost use Rattle.mv_ends.specs.Rings.{ring_put, inflow_of, with_item, HasFront, IsEmptyFrom, IsFront};
+    ghost use Rattle.mv_ends.specs.Rings.{ring_put, with_item, IsEmptyFrom, IsFront};
+    ghost use Rattle.mv_ends.specs.inside.Rings.{inflow_of, HasFront};
 
     /// The ends of these rings.
     pub(crate) fn new(ends: Vec<Consumer<Parcel<T>>>) -> Inlets<T>

@@ -2,8 +2,9 @@
 
 ghost use Rattle.std.specs.Prelude.{◌≡◌, IfOk, OnOk};
 ghost use Rattle.mv_machine.specs.State.{opening};
-ghost use Rattle.mv_ends.specs.Rings.{AreLinks};
-ghost use Rattle.mv_ends.specs.Whole.{AddsOpened, AreEnds, state_of};
+ghost use Rattle.mv_ends.specs.inside.Rings.{AreLinks};
+ghost use Rattle.mv_ends.specs.Whole.{AreEnds, state_of};
+ghost use Rattle.mv_ends.specs.inside.Whole.{AddsOpened};
 
 use crate::hub_end::HubEnd;
 use crate::inlets::Inlets;

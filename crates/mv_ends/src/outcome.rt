@@ -34,7 +34,8 @@ impl Drop for Outcome {
 
 impl Model for Outcome {
     ghost use Rattle.mv_machine.specs.State.{State};
-    ghost use Rattle.mv_ends.specs.Whole.{state_of, IsOutcome};
+    ghost use Rattle.mv_ends.specs.Whole.{state_of};
+    ghost use Rattle.mv_ends.specs.inside.Whole.{IsOutcome};
 
     ghost Value = { State };
 

@@ -3,7 +3,7 @@
 
 ghost use Rattle.std.specs.Prelude.{◌≡◌, [], length, IfOk, IfErr};
 ghost use Rattle.mv_ends.specs.Words.{sent, IsLawfulParty, new_site};
-ghost use Rattle.mv_ends.specs.Valid.{AreAccepted};
+ghost use Rattle.mv_ends.specs.inside.Valid.{AreAccepted};
 ghost use Rattle.mv_repository.specs.Verdict.{joint_verdict};
 
 use crate::answering::{answer_parcel, is_full, put_answer};
@@ -58,7 +58,7 @@ pub struct Unsubmitted {
 }
 
 impl RepoEnd {
-    ghost use Rattle.mv_ends.specs.Rings.{AreEmpty};
+    ghost use Rattle.mv_ends.specs.inside.Rings.{AreEmpty};
     ghost use Rattle.mv_ends.specs.RepoEnd.{SameRepoEnd, Submits, Asks, Verifies, Applies};
 
     /// The end of a party that did nothing yet, one of so many, with its ends of rings that were not used yet. Refused for want of

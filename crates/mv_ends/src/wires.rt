@@ -18,7 +18,8 @@ pub struct Wires {
 }
 
 impl Model for Wires {
-    ghost use Rattle.mv_ends.specs.Rings.{WireTable, table_of};
+    ghost use Rattle.mv_ends.specs.Rings.{WireTable};
+    ghost use Rattle.mv_ends.specs.inside.Rings.{table_of};
 
     ghost Value = { WireTable };
 
@@ -26,7 +27,8 @@ impl Model for Wires {
 }
 
 impl Wires {
-    ghost use Rattle.mv_ends.specs.Rings.{table_of, with_frame, HasRoomOn, IsFullOn};
+    ghost use Rattle.mv_ends.specs.Rings.{with_frame, HasRoomOn, IsFullOn};
+    ghost use Rattle.mv_ends.specs.inside.Rings.{table_of};
 
     /// The ends of these links.
     pub(crate) fn new(rows: Vec<Vec<Producer<Parcel<Frame>>>>) -> Wires

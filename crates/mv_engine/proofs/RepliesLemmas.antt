@@ -1,6 +1,6 @@
 -- Lemmas on replies to lines that come in parts.
 use Rattle.std.proofs.lemmas.List.Elements.{filter_map-append}
-use Rattle.mv_engine.proofs.Words.{◌≡◌, ℕ, ◌+◌, List, [], ◌∷◌, ◌++◌, ◌≢◌, refl, length, map, take, take_at, sym, subst, append-nil, append_assoc, arith, Bool, true, false, Option, Some, None, nat_tests, flat_map-append, strip_last, Line, KeepLimits, line_at, unless_empty, AreReplies, IsReplies, said, AreAnswered}
+use Rattle.mv_engine.proofs.Words.{◌≡◌, ℕ, ◌+◌, List, [], ◌∷◌, ◌++◌, ◌≢◌, refl, ap, length, inl, inr, map, take, take_at, sym, subst, append-nil, append_assoc, arith, Bool, true, false, Option, Some, None, nat_tests, flat_map-append, strip_last, Line, KeepLimits, line_at, unless_empty, AreReplies, IsReplies, said, GotNoReply, AreAnswered, TookAtMostOne}
 
 -- a line that isn't empty is the one of its piece
 one_line : (number : ℕ) (line : List ℕ) → line ≢ [] → map (line_at number) (unless_empty line) ++ [] ≡ line_at number line ∷ []
@@ -31,6 +31,19 @@ module _ {S : Type 0} (Reply : S → Line → Option (List ℕ) → S → Type 0
   -- the want of a reply to one line
   IsReplies-none : (a b : S) (line : Line) → Reply a line None b → IsReplies Reply a (line ∷ []) [] b
   IsReplies-none a b line reply = (None ∷ [], refl, (b, reply, refl))
+
+  -- a line that got no reply is at most one that was taken
+  pub took_one : (count : ℕ) (piece line : List ℕ) (a b : S) → line ≡ strip_last 13 piece → line ≢ [] → GotNoReply Reply a (line_at (count + 1) line) b
+      → TookAtMostOne Reply count a (piece ∷ []) b
+  took_one count piece line a b stripped some (inl same) = inl same
+  took_one count piece line a b stripped some (inr (text, reply)) =
+      inr (piece, [], refl, line_at (count + 1) line, rw (← stripped) (one_line (count + 1) line some), text, reply)
+
+  -- where more pieces follow, it is the first of them all the same
+  pub took_later : (count : ℕ) (a b : S) (ps more : List (List ℕ)) → TookAtMostOne Reply count a ps b → TookAtMostOne Reply count a (ps ++ more) b
+  took_later count a b ps more (inl same) = inl same
+  took_later count a b ps more (inr (next, rest, first, line, is, text, reply)) =
+      inr (next, rest ++ more, ap (λ l. l ++ more) first, line, is, text, reply)
 
   -- a piece that is an empty line adds no reply
   pub nothing_added : (count : ℕ) (kept piece : List ℕ) (a : S) → KeepLimits count (piece ∷ []) → strip_last 13 piece ≡ []

@@ -1,6 +1,7 @@
 -- Lemmas on what a run over lines has written.
-use Rattle.mv_engine.proofs.Words.{◌≡◌, ℕ, ◌<◌, ◌≤◌, List, [], ◌++◌, length, sym, ◌∙◌, ap, arith, append_assoc, append-nil, length-append, take, subst, Option, Result, OnOk, IfErr, common_steps, nat_tests, Appends, Consumes, Appends-trans, Consumes-trans, ServeFault, Read, Write, Start, whole_from, rest_from, pieces, unless_empty, Line, line_at, line_limit, lines_limit, WrotePart, GotNoReply, AreAnswered, StoppedAt, WroteAt, Served, EndedAt, Taken, Halted}
+use Rattle.mv_engine.proofs.Words.{◌≡◌, ℕ, ◌<◌, ◌≤◌, List, [], ◌++◌, length, sym, ◌∙◌, ap, arith, append_assoc, append-nil, length-append, take, subst, Option, Result, OnOk, IfErr, common_steps, nat_tests, Appends, Consumes, Appends-trans, Consumes-trans, ServeFault, Read, Write, Start, whole_from, rest_from, pieces, unless_empty, Line, line_limit, lines_limit, WrotePart, AreAnswered, TookAtMostOne, StoppedAt, WroteAt, Served, EndedAt, Taken, Halted}
 use Rattle.mv_engine.proofs.InputLemmas.{whole_from-append, answered_more, stopped_later}
+use Rattle.mv_engine.proofs.RepliesLemmas.{took_later}
 
 -- nothing more was read
 pub read_none : (a b c : Option (List ℕ)) (xs block : List ℕ) (n : ℕ) → Consumes a b xs → Consumes b c (take n block) → n ≡ 0 → Consumes a c xs
@@ -13,13 +14,12 @@ module _ {S : Type 0} (Reply : S → Line → Option (List ℕ) → S → Type 0
       → count' ≤ lines_limit → (0 < length begun' → count' < lines_limit) → length begun' ≤ line_limit → EndedAt Reply Read before bytes between old new
   unread_at before between bytes begun' out count' old new written taken few behind short = grind (arith, nat_tests, common_steps)
 
-  -- the write of the replies failed to the lines that end in some bytes, and to those that `more` are
-  pub broken : {A : Type 0} (came : Result A ServeFault) (kept ready begun bytes : List ℕ) (more ps : List (List ℕ)) (count : ℕ) (before after : S) (old new : Option (List ℕ))
-      → ps ≡ whole_from begun bytes ++ more → kept ≡ [] → OnOk came ((out : List ℕ) × (ready ≡ kept ++ out) × AreAnswered Reply count before ps after out)
-      → IfErr came (λ fault. (out : List ℕ) × (ready ≡ kept ++ out) × StoppedAt Reply fault begun count before bytes after out)
+  -- the write of the replies failed to the lines that `ps` are
+  pub broken : {A : Type 0} (came : Result A ServeFault) (kept ready begun bytes : List ℕ) (ps : List (List ℕ)) (count : ℕ) (before after : S) (old new : Option (List ℕ))
+      → kept ≡ [] → OnOk came ((out : List ℕ) × (ready ≡ kept ++ out) × AreAnswered Reply count before ps after out)
+      → IfErr came (λ fault. (out : List ℕ) × (ready ≡ kept ++ out) × StoppedAt Reply fault begun count before bytes ps after out)
       → WrotePart ready old new → WroteAt Reply count before ps after old new
-  broken came kept ready begun bytes more ps count before after old new are none answered stopped part =
-      grind (arith, append-nil ps, append_assoc, whole_from-append)
+  broken came kept ready begun bytes ps count before after old new none answered stopped part = grind (arith, append-nil ps)
 
   -- the replies to a later part of the input broke off
   wrote_later : (before between after : S) (front begun' out : List ℕ) (count' : ℕ) (ps more all : List (List ℕ)) (a b c : Option (List ℕ)) → Appends a b out
@@ -33,8 +33,8 @@ module _ {S : Type 0} (Reply : S → Line → Option (List ℕ) → S → Type 0
     behind = broken.behind;
     answered = answered_more Reply taken.answered (rw taken.counted at broken.answered);
     written = (out ++ went, unwritten, ap (λ l. out ++ l) is ∙ sym (append_assoc out went unwritten), Appends-trans a b c out went written did);
-    next = broken.next;
-    left = subst (λ n. GotNoReply Reply broken.behind (line_at n broken.next) after) (rw length-append (omega (arith, taken.counted))) broken.left;
+    left = subst (λ n. TookAtMostOne Reply n broken.behind (broken.unanswered ++ more) after) (rw length-append (omega (arith, taken.counted)))
+        (took_later Reply _ broken.behind after broken.unanswered more broken.left);
   }
 
   -- the taking of a later part of the input ended, or the writing of the replies to what stands there, and so the run
@@ -46,7 +46,7 @@ module _ {S : Type 0} (Reply : S → Line → Option (List ℕ) → S → Type 0
   halted_later Start before between after front back begun' out count' ps more a b c written taken are (other, went, stopped) = absurd stopped.why
   halted_later Write before between after front back begun' out count' ps more a b c written taken are broken = search wrote_later
   halted_later fault before between after front back begun' out count' ps more a b c written taken are (other, went, stopped) =
-      (out ++ other, Appends-trans a b c out other written went, stopped_later Reply fault [] (ap (λ l. front ++ l) (sym (append-nil back))) taken stopped)
+      (out ++ other, Appends-trans a b c out other written went, stopped_later Reply fault [] more (ap (λ l. front ++ l) (sym (append-nil back))) are taken stopped)
 
   -- that of a block
   pub halted_block : (fault : ServeFault) (before between after : S) (front back begun' out : List ℕ) (count' : ℕ) (a b c : Option (List ℕ)) → Appends a b out

@@ -1,9 +1,10 @@
 -- The names of the library, of the definitions, and of the crates below that several files take, passed on from one place. Declares nothing.
-pub use Rattle.mv_engine.specs.Lines.{IsUnended, KeepLimits, Line, unless_empty, line_at, line_begun, line_limit, lines_from, lines_limit, lines_of, pieces, rest_from, whole_from}
+pub use Rattle.mv_engine.specs.Lines.{IsUnended, KeepLimits, Line, unless_empty, line_at, line_limit, lines_from, lines_limit, lines_of, pieces, rest_from, whole_from}
 pub use Rattle.mv_engine.specs.Output.{WrotePart}
-pub use Rattle.mv_engine.specs.Replies.{AreReplies, GotNoReply, IsReplies, said, said_texts, text_lines}
-pub use Rattle.mv_engine.specs.Served.{AreAnswered, EndedAt, Served, StoppedAt, StopsAt, StopsIn, WroteAt}
-pub use Rattle.mv_engine.specs.Taking.{Halted, Taken}
+pub use Rattle.mv_engine.specs.Replies.{AreReplies, GotNoReply, IsReplies, said, text_lines}
+pub use Rattle.mv_engine.specs.Served.{AreAnswered, EndedAt, Served, StoppedAt, StopsAt, TookAtMostOne, WroteAt}
+pub use Rattle.mv_engine.specs.inside.Served.{StopsIn}
+pub use Rattle.mv_engine.specs.inside.Taking.{Halted, Taken}
 pub use Rattle.mv_engine.specs.declared.fault.ServeFault.TheVariants.{LineTooLong, Memory, Read, Start, TooManyLines, Write}
 pub use Rattle.mv_engine.specs.declared.fault.ServeFault.{ServeFault}
 pub use Rattle.std.proofs.Common.{All, Bool, IfErr, List, None, OnOk, Option, Result, Some, [], ap, append-nil, append_assoc, arith, drop, drop-cons, false, get_or, inl, inr, length, length-append, length-drop, map, refl, rules, subst, suc, sym, take, take_at, true, ℕ, ◌++◌, ◌+◌, ◌-◌, ◌<◌, ◌∙◌, ◌∷◌, ◌≡◌, ◌≢◌, ◌≤◌}

@@ -2,5 +2,5 @@ pub mod Lines
 pub mod Output
 pub mod Replies
 pub mod Served
-pub mod Taking
 pub mod LineLaws
+pub mod inside

@@ -39,10 +39,6 @@ abbrev pub lines_from : ℕ → List (List ℕ) → List Line
 lines_from count [] = []
 lines_from count (piece ∷ ps) = map (line_at (count + 1)) (unless_empty (strip_last 13 piece)) ++ lines_from (count + 1) ps
 
--- the line that is begun behind these bytes, which came when it had `begun` and `count` lines had come
-abbrev pub line_begun : ℕ → List ℕ → List ℕ → Line
-line_begun count begun bytes = line_at (count + length (whole_from begun bytes) + 1) (strip_last 13 (rest_from begun bytes))
-
 -- the bytes of the lines that pieces are
 abbrev pub lines_of : List (List ℕ) → List (List ℕ)
 lines_of ps = map (λ line. line.bytes) (lines_from 0 ps)

@@ -1,11 +1,11 @@
 -- What a run over lines has read, answered and written.
-use Rattle.std.specs.Prelude.{◌≡◌, ◌≢◌, ℕ, ◌+◌, ◌<◌, List, [], ◌∷◌, ◌++◌, length, Option, ⊤}
-use Rattle.std.specs.Io.KnownBytes.{Appends}
+use Rattle.std.specs.Prelude.{◌≡◌, ◌≢◌, ℕ, ◌+◌, ◌<◌, List, [], ◌∷◌, ◌++◌, ◌⊎◌, length, Option, IfSome, ⊤}
+use Rattle.std.specs.Io.KnownBytes.{Appends, Consumes}
 use Rattle.mv_engine.specs.declared.fault.ServeFault.{ServeFault}
 use Rattle.mv_engine.specs.declared.fault.ServeFault.TheVariants.{Read, Write, Memory, TooManyLines, LineTooLong}
-use Rattle.mv_engine.specs.Lines.{line_at, line_begun, whole_from, rest_from, pieces, lines_from, line_limit, lines_limit, KeepLimits}
+use Rattle.mv_engine.specs.Lines.{Line, whole_from, rest_from, pieces, lines_from, line_limit, lines_limit, KeepLimits}
 use Rattle.mv_engine.specs.Output.{WrotePart}
-use Rattle.mv_engine.specs.Replies.{ReplyRule, IsReplies, GotNoReply}
+use Rattle.mv_engine.specs.Replies.{ReplyRule, IsReplies}
 
 -- some bytes went out, and the fact holds of them
 abbrev pub Wrote : Option (List ℕ) → Option (List ℕ) → (List ℕ → Type 0) → Type 0
@@ -16,6 +16,12 @@ pub record AreAnswered {S : Type 0} (rule : ReplyRule S) (count : ℕ) (before :
     (out : List ℕ) : Type 0 where
   pub kept : KeepLimits count ps
   pub replied : IsReplies rule before (lines_from count ps) out after
+
+-- What answers took at most the first of these pieces, which come behind `count` lines: it is as it was before them, or the first is a
+-- line, not an empty one, and it is as a right reply to that line would leave it.
+abbrev pub TookAtMostOne : {S : Type 0} → ReplyRule S → ℕ → S → List (List ℕ) → S → Type 0
+TookAtMostOne rule count before ps after = (after ≡ before) ⊎ ((next : List ℕ) × (rest : List (List ℕ)) × (ps ≡ next ∷ rest)
+    × (line : Line) × (lines_from count (next ∷ []) ≡ line ∷ []) × (text : Option (List ℕ)) × rule before line text after)
 
 -- why the taking of bytes stops between `good` and `bad`
 abbrev pub StopsAt : ServeFault → List ℕ → ℕ → List ℕ → List ℕ → Type 0
@@ -30,27 +36,25 @@ StopsAt LineTooLong begun count good bad =
 -- no other fault stops it there
 StopsAt fault begun count good bad = ⊥
 
--- the taking of bytes of a line stopped among them
-abbrev pub StopsIn : ServeFault → List ℕ → ℕ → List ℕ → Type 0
-StopsIn fault begun count bytes = (good : List ℕ) × (bad : List ℕ) × (bytes ≡ good ++ bad) × StopsAt fault begun count good bad
-
--- The taking of the bytes stopped at a place, `out` are the replies to the lines that end before it, which keep the limits, and what
--- answers is left in the state `after`: behind these lines, or, only where memory was refused, perhaps behind the next, to which no reply
--- stands ready.
+-- The taking of the bytes, by which the pieces `ps` are whole, stopped at a place, `out` are the replies to the lines that end before it,
+-- which keep the limits, and what answers is left in the state `after`: behind these lines, or, only where memory was refused, perhaps
+-- behind the next of `ps`, to which no reply stands ready.
 pub record StoppedAt {S : Type 0} (rule : ReplyRule S) (fault : ServeFault) (begun : List ℕ) (count : ℕ) (before : S)
-    (bytes : List ℕ) (after : S) (out : List ℕ) : Type 0 where
+    (bytes : List ℕ) (ps : List (List ℕ)) (after : S) (out : List ℕ) : Type 0 where
   pub good : List ℕ
   pub bad : List ℕ
   pub cut : bytes ≡ good ++ bad
   pub why : StopsAt fault begun count good bad
+  pub unanswered : List (List ℕ)
+  pub parted : ps ≡ whole_from begun good ++ unanswered
   pub behind : S
   pub answered : AreAnswered rule count before (whole_from begun good) behind out
-  pub left : GotNoReply rule behind (line_begun count begun good) after
+  pub left : TookAtMostOne rule (count + length (whole_from begun good)) behind unanswered after
   pub left_alone : fault ≢ Memory → after ≡ behind
 
 -- Of the replies to some first pieces the first bytes went out, and no more. Those pieces keep the limits, behind `count` lines. What
--- answers is left in the state `after`: behind the lines whose replies were ready. Where memory was refused before the write failed, the
--- next line got no reply.
+-- answers is left in the state `after`: behind the lines whose replies were ready, or, where memory was refused before the write failed,
+-- perhaps behind the next, to which no reply stood ready.
 pub record WroteAt {S : Type 0} (rule : ReplyRule S) (count : ℕ) (before : S) (ps : List (List ℕ)) (after : S)
     (old new : Option (List ℕ)) : Type 0 where
   pub first : List (List ℕ)
@@ -60,8 +64,7 @@ pub record WroteAt {S : Type 0} (rule : ReplyRule S) (count : ℕ) (before : S) 
   pub behind : S
   pub answered : AreAnswered rule count before first behind ready
   pub written : WrotePart ready old new
-  pub next : List ℕ
-  pub left : GotNoReply rule behind (line_at (count + length first + 1) next) after
+  pub left : TookAtMostOne rule (count + length first) behind unanswered after
 
 -- A whole input was answered: its lines keep the limits, and the replies to them went out.
 abbrev pub Served : {S : Type 0} → ReplyRule S → S → List ℕ → S → Option (List ℕ) → Option (List ℕ) → Type 0
@@ -76,8 +79,17 @@ abbrev pub EndedAt : {S : Type 0} → ReplyRule S → ServeFault → S → List 
 EndedAt rule Read before bytes after old new = KeepLimits 0 (pieces bytes)
     × Wrote old new (AreAnswered rule 0 before (whole_from [] bytes) after)
 EndedAt rule Write before bytes after old new = WroteAt rule 0 before (pieces bytes) after old new
-EndedAt rule fault before bytes after old new = Wrote old new (StoppedAt rule fault [] 0 before bytes after)
+EndedAt rule fault before bytes after old new = Wrote old new (StoppedAt rule fault [] 0 before bytes (pieces bytes) after)
 
 -- the same, whatever the state is
 abbrev pub Ended : {S : Type 0} → ReplyRule S → ServeFault → S → List ℕ → Option (List ℕ) → Option (List ℕ) → Type 0
 Ended {S = S} rule fault before bytes old new = (after : S) × EndedAt rule fault before bytes after old new
+
+-- a whole input was answered, whatever state is left
+abbrev pub AllServed : {S : Type 0} → ReplyRule S → S → Option (List ℕ) → Option (List ℕ) → Option (List ℕ) → Type 0
+AllServed {S = S} rule before input old new = IfSome input (λ bytes. (after : S) × Served rule before bytes after old new)
+
+-- this fault ended a run that read an input up to `rest`
+abbrev pub EndedBy : {S : Type 0} → ReplyRule S → ServeFault → S → Option (List ℕ) → Option (List ℕ) → Option (List ℕ) → Option (List ℕ)
+    → Type 0
+EndedBy rule fault before input rest old new = (bytes : List ℕ) × Consumes input rest bytes × Ended rule fault before bytes old new

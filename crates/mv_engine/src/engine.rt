@@ -2,7 +2,7 @@
 
 ghost use Rattle.std.specs.Prelude.{◌≡◌, ℕ, ◌<◌, ◌≤◌, List, length, take, OnOk, IfOk, IfErr, IfSome};
 ghost use Rattle.std.specs.Io.KnownBytes.{Consumes, Keeps, IsAtEnd};
-ghost use Rattle.mv_engine.specs.Served.{Served, Ended, EndedAt};
+ghost use Rattle.mv_engine.specs.Served.{Served, EndedAt, EndedBy};
 
 use crate::input::Input;
 use crate::limits::{BLOCK_LEN, INTERRUPTIONS_LIMIT};
@@ -10,7 +10,7 @@ use crate::{Answering, ServeFault};
 use std::alloc::Global;
 use std::io::{ErrorKind, Read, Write};
 
-/// Writes the reply to each line that is read, and nothing else. A line is known to be whole by its line feed, or by the
+/// Writes the reply to each line that is read and has one, and nothing else. A line is known to be whole by its line feed, or by the
 /// end of the input.
 pub fn answer_lines<S: Answering, R: Read, W: Write>(
     alloc: Global,
@@ -22,9 +22,8 @@ pub fn answer_lines<S: Answering, R: Read, W: Write>(
         Served S.replies answering.old bytes answering.new
         (W.contents writer.old) (W.contents writer.new))) }
     // The bytes are those that were read.
-    ensures err { IfErr result (λ fault. (bytes : List ℕ)
-        × Consumes (R.remaining reader.old) (R.remaining reader.new) bytes
-        × Ended S.replies fault answering.old bytes (W.contents writer.old) (W.contents writer.new)) }
+    ensures err { IfErr result (λ fault. EndedBy S.replies fault answering.old
+        (R.remaining reader.old) (R.remaining reader.new) (W.contents writer.old) (W.contents writer.new)) }
     // And so what answers is left behind the lines that were answered.
     ensures ended { IfErr result (λ fault. (bytes : List ℕ)
         × Consumes (R.remaining reader.old) (R.remaining reader.new) bytes

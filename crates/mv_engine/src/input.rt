@@ -2,10 +2,11 @@
 
 ghost use Rattle.std.specs.Prelude.{◌≡◌, ◌+◌, ◌<◌, ◌≤◌, [], ◌∷◌, ◌++◌, length, OnOk, IfErr, vec_items};
 ghost use Rattle.std.specs.Io.BufRead.{strip_last};
-ghost use Rattle.mv_engine.specs.Lines.{IsUnended, unless_empty, line_begun, line_limit, lines_limit, whole_from};
-ghost use Rattle.mv_engine.specs.Replies.{GotNoReply, Readied};
-ghost use Rattle.mv_engine.specs.Served.{AreAnswered, Wrote, StopsIn, StoppedAt};
-ghost use Rattle.mv_engine.specs.Taking.{Taken, Halted};
+ghost use Rattle.mv_engine.specs.Lines.{IsUnended, unless_empty, line_limit, lines_limit, whole_from};
+ghost use Rattle.mv_engine.specs.Replies.{Readied};
+ghost use Rattle.mv_engine.specs.Served.{AreAnswered, TookAtMostOne, Wrote, StoppedAt};
+ghost use Rattle.mv_engine.specs.inside.Served.{StopsIn};
+ghost use Rattle.mv_engine.specs.inside.Taking.{Taken, Halted};
 
 use crate::limits::{LINE_LIMIT, LINES_LIMIT};
 use crate::{Answering, ServeFault, put_out};
@@ -87,7 +88,7 @@ impl Input {
         ensures err { IfErr result (λ fault.
             Readied self.old.replies.items self.new.replies.items (λ out.
             StoppedAt S.replies fault self.old.begun.items self.old.lines answering.old
-            bytes.now answering.new out)) }
+            bytes.now (whole_from self.old.begun.items bytes.now) answering.new out)) }
     {
         let mut rest = bytes;
         while let Some(end) = memchr(b'\n', rest) {
@@ -106,7 +107,7 @@ impl Input {
         ensures err { IfErr result (λ fault.
             Readied self.old.replies.items self.new.replies.items (λ out.
             StoppedAt S.replies fault self.old.begun.items self.old.lines answering.old
-            (part.now ++ 10 ∷ []) answering.new out)) }
+            (part.now ++ 10 ∷ []) (whole_from self.old.begun.items (part.now ++ 10 ∷ [])) answering.new out)) }
     {
         self.check_part(part)?;
         if self.lines == LINES_LIMIT {
@@ -131,8 +132,8 @@ impl Input {
             ((self.old.begun.items ++ part.now) ∷ []) answering.new)) }
         ensures fault { IfErr result (λ fault. fault ≡ ServeFault.Memory) }
         ensures err { IfErr result (λ _. self.new.replies.items ≡ self.old.replies.items) }
-        ensures left { IfErr result (λ _. GotNoReply S.replies answering.old
-            (line_begun self.old.lines (self.old.begun.items ++ part.now) []) answering.new) }
+        ensures left { IfErr result (λ _. TookAtMostOne S.replies self.old.lines answering.old
+            ((self.old.begun.items ++ part.now) ∷ []) answering.new) }
         ensures lines { self.new.lines ≡ self.old.lines }
     {
         if self.begun.is_empty() {
@@ -184,7 +185,7 @@ impl Input {
         ensures err { IfErr result (λ fault.
             Readied self.old.replies.items self.new.replies.items (λ out.
             StoppedAt S.replies fault self.old.begun.items self.old.lines answering.old
-            [] answering.new out)) }
+            [] (unless_empty self.old.begun.items) answering.new out)) }
     {
         if self.begun.is_empty() {
             return Ok(());
@@ -209,7 +210,7 @@ fn answer_piece<S: Answering>(
     ensures fault { IfErr result (λ fault. fault ≡ ServeFault.Memory) }
     ensures err { IfErr result (λ _. replies.new.items ≡ replies.old.items) }
     ensures left { IfErr result (λ _.
-        GotNoReply S.replies answering.old (line_begun count piece.now []) answering.new) }
+        TookAtMostOne S.replies count answering.old (piece.now ∷ []) answering.new) }
 {
     let line = without_return(piece);
     if line.is_empty() {

@@ -1,9 +1,9 @@
 //! The engine that reads the lines of an input, and writes what they are answered.
 //!
 //! What answers a line is an [`Answering`], whose rule the contract of [`answer_lines`] carries. The contract: what has gone out
-//! are replies that this rule calls right, one for each line, in order, by the definitions in `specs/`: what the lines of some
-//! bytes are, their limits, and what stands written where a run ended by a fault. This crate knows bytes and lines, and nothing of
-//! what a line asks.
+//! are replies that this rule calls right, in order, to each line at most one, by the definitions in `specs/`: what the lines of some
+//! bytes are, their limits, and what stands written where a run ended by a fault. Whether a line has a reply, the rule says; an empty
+//! line has none. This crate knows bytes and lines, and nothing of what a line asks.
 //!
 //! It can be used alone, with the crates that its line of crates.txt names.
 //! A caller that has the lines of a text answered, proved in the gate (`mv_rows`):

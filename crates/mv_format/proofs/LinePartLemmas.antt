@@ -4,11 +4,11 @@ use Rattle.mv_format.specs.declared.line_part.LineEntry.{LineEntry}
 use Rattle.json.specs.Json.{value}
 use Rattle.json.specs.Lex.{tokens}
 use Rattle.serde_json.specs.Read.{number_of}
-use Rattle.mv_json.specs.Met.{IsOneOf}
+use Rattle.mv_json.specs.inside.Met.{IsOneOf}
 use Rattle.mv_json.proofs.MetLemmas.{AreMet, none_met, one_more_met, all_met, begun_shorter, converted_some, whole_begins, stands, known_only}
 use Rattle.mv_json.proofs.ValueLemmas.{utf8_test}
 use Rattle.mv_format.specs.declared.line_part.LinePart.{LinePart}
-use Rattle.mv_format.specs.LineParts.{Asks, BeginWithEntries, BeginWithPart, HasEntries, IsPart, TellsPart, entry, entry_name}
+use Rattle.mv_format.specs.inside.LineParts.{Asks, BeginWithEntries, BeginWithPart, HasEntries, IsPart, TellsPart, entry, entry_name}
 use Rattle.json.specs.Token as token
 use Rattle.mv_format.specs.declared.field.LineField.TheVariants as fields
 use Rattle.mv_format.specs.declared.line_part.LinePart.TheVariants as parts
@@ -18,7 +18,7 @@ use Rattle.mv_format.specs.declared.line_part.LinePart.TheVariants as parts
 -- a value that is a whole number of 32 bits
 pub number_says : (ts rest : List Token) (n : ℕ) (text : List ℕ) → ts ≡ token.number text ∷ rest → number_of text ≡ Some (unsigned n) → n < 2 ^ 32
     → BeginWithPart ts (parts.Number n) rest
-number_says ts rest n text is numbered within = (whole n, rw is (whole_begins 3 n text rest numbered), (refl, within))
+number_says ts rest n text is numbered within = (whole n, rw is (whole_begins 2 n text rest numbered), (refl, within))
 
 -- ---- names
 
@@ -30,25 +30,25 @@ name_apart f g apart same = grind (arith, nat_tests)
 
 -- the tokens up to there are members that have the fields that were met, and no other
 abbrev pub AreEntries : List Token → List LineEntry → List Token → Type 0
-AreEntries start entries rest = AreMet entry_name (λ part met. IsPart part met.part) 3 start entries rest
+AreEntries start entries rest = AreMet entry_name (λ part met. IsPart part met.part) 2 start entries rest
 
 pub no_entry : (start : List Token) → AreEntries start [] start
-no_entry start = none_met entry_name (λ part met. IsPart part met.part) 3 start
+no_entry start = none_met entry_name (λ part met. IsPart part met.part) 2 start
 
 pub one_more_entry : (start more rest : List Token) (old new : List LineEntry) (field : LineField) (part : LinePart)
     → AreEntries start old (key (field_name field) ∷ more) → BeginWithPart more part rest → new ≡ old ++ entry field part ∷ []
     → All (λ other. other.field ≢ field) old → AreEntries start new rest
 one_more_entry start more rest old new field part are (found, begins, is) added apart =
-    one_more_met entry_name (λ part met. IsPart part met.part) 3 start more rest old new (entry field part) found are begins is
+    one_more_met entry_name (λ part met. IsPart part met.part) 2 start more rest old new (entry field part) found are begins is
     (added, λ k d h. name_apart _ field (apart k d h))
 
 pub all_entries : (start rest : List Token) (entries : List LineEntry) → AreEntries start entries (end_object ∷ rest)
     → BeginWithEntries (begin_object ∷ start) entries rest
-all_entries start rest entries are = all_met entry_name (λ part met. IsPart part met.part) 3 start rest entries are
+all_entries start rest entries are = all_met entry_name (λ part met. IsPart part met.part) 2 start rest entries are
 
 -- a part takes tokens
 pub part_shorter : (ts rest : List Token) (part : LinePart) → BeginWithPart ts part rest → length rest < length ts
-part_shorter ts rest part (found, begins, says) = begun_shorter 3 ts rest found begins
+part_shorter ts rest part (found, begins, says) = begun_shorter 2 ts rest found begins
 
 -- ---- what a field is read as
 

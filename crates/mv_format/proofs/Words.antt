@@ -4,13 +4,14 @@ pub use Rattle.json.specs.Token.{Token, begin_array, begin_object, end_array, en
 pub use Rattle.mv_format.specs.Fields.{field_name}
 pub use Rattle.mv_format.specs.Kinds.{Asking, names_of, shape_of}
 unfoldable pub use Rattle.mv_format.specs.Kinds.{kind_at}
-pub use Rattle.mv_format.specs.MarketLists.{market_item, market_list, read_all, with_front}
-unfoldable pub use Rattle.mv_format.specs.MarketLists.{walked_lists_at}
+pub use Rattle.mv_format.specs.inside.MarketLists.{market_item, market_list, read_all, with_front}
+unfoldable pub use Rattle.mv_format.specs.inside.MarketLists.{walked_lists_at}
 pub use Rattle.mv_format.specs.Reading.{member_at, of_32_bits}
 unfoldable pub use Rattle.mv_format.specs.Reading.{market_lists_at, message_at, number_at, read_at}
 pub use Rattle.mv_format.specs.Requests.{asked_at, read_line}
 unfoldable pub use Rattle.mv_format.specs.Requests.{read_request, request_at}
-pub use Rattle.mv_format.specs.Writing.{entry_of, entry_tokens, member_tokens, members_of, members_where}
+pub use Rattle.mv_format.specs.Writing.{entry_of, members_of, members_where}
+pub use Rattle.mv_format.specs.inside.Writing.{entry_tokens, member_tokens}
 unfoldable pub use Rattle.mv_format.specs.Writing.{tokens_of}
 pub use Rattle.mv_format.specs.declared.line_fault.LineFault.TheVariants.{Kind, Pack, Unknown}
 pub use Rattle.mv_json.proofs.ReadsLemmas.{none_unknown, read_is_legal, reads_back}

@@ -1,14 +1,13 @@
 pub mod Words
 pub mod Fields
 pub mod Reading
-pub mod MarketLists
 pub mod Meanings
 pub mod Kinds
 pub mod Requests
 pub mod RequestLaws
-pub mod LineParts
 pub mod Objects
 pub mod ReplyLines
 pub mod Writing
 pub mod KeyOrder
 pub mod Openings
+pub mod inside

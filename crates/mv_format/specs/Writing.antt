@@ -50,15 +50,6 @@ members_of ms = members_where (map entry_of ms)
 unfoldable pub tokens_of : Data → List Token
 tokens_of value = json_tokens (outline value)
 
--- the tokens of a key and of its value, if there is one
-abbrev pub entry_tokens : List ℕ → Option Data → List Token
-entry_tokens name None = []
-entry_tokens name (Some value) = key name ∷ tokens_of value
-
--- the tokens of a member
-abbrev pub member_tokens : Member → List Token
-member_tokens m = entry_tokens (entry_of m).0 (entry_of m).1
-
 -- the value came behind what was written
 abbrev pub Adds : {E : Type 0} → Result (Unit {0}) E → Written → Written → Data → Type 0
 Adds result old new value = IfOk result (λ _. new.tokens ≡ old.tokens ++ tokens_of value)

@@ -9,7 +9,7 @@ use mv_machine::{Refusal, Reply, Step};
 /// with it.
 #[derive(Debug, Drop)]
 pub enum Answered {
-    /// The line asks nothing: M1 to M8. Nothing changed.
+    /// The line asks nothing: M1 to M8, or M9 where memory was refused. Nothing changed.
     Unread(LineFault),
     /// What is open refuses what the line asks: C1, C2, H1 to H3, O1 to O4. Nothing changed.
     NotTaken(OpenFault),

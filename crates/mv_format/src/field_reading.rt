@@ -2,7 +2,7 @@
 
 ghost use Rattle.std.specs.Prelude.{◌≡◌, ◌≢◌, option_and_then, MatchResult, Ok, Err};
 ghost use Rattle.mv_format.specs.Words.{Data, GivesOr, read_code, read_gtin, view, whole_number};
-ghost use Rattle.mv_format.specs.LineParts.{MayGive, Stands};
+ghost use Rattle.mv_format.specs.inside.LineParts.{MayGive, Stands};
 ghost use Rattle.mv_format.specs.Reading.{member_at, text_at, read_at, of_32_bits, number_at, message_at};
 
 use crate::line_part::{LineObject, LinePart, find};

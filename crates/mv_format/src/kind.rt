@@ -2,7 +2,7 @@
 
 ghost use Rattle.std.specs.Prelude.{◌≡◌, ◌∷◌};
 ghost use Rattle.mv_format.specs.Kinds.{kind_named, kind_at, shape_of};
-ghost use Rattle.mv_format.specs.LineParts.{MayGive};
+ghost use Rattle.mv_format.specs.inside.LineParts.{MayGive};
 
 use crate::field_reading::text_of;
 use crate::line_part::LineObject;

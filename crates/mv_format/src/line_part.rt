@@ -1,8 +1,8 @@
 //! The fields of a line as they are met, in any order, and what stands in each; and the object that they are of.
 
 ghost use Rattle.std.specs.Prelude.{◌≡◌, ◌≢◌, ◌∷◌, ◌++◌, [], All, IsTrue, IfSome};
-ghost use Rattle.mv_json.specs.Met.{IsOneOf};
-ghost use Rattle.mv_format.specs.LineParts.{TellsPart, entry};
+ghost use Rattle.mv_json.specs.inside.Met.{IsOneOf};
+ghost use Rattle.mv_format.specs.inside.LineParts.{TellsPart, entry};
 
 use crate::LineField;
 use arrayvec::ArrayVec;
@@ -95,7 +95,7 @@ pub(crate) fn are_among(entries: &[LineEntry<'_>], fields: &[LineField]) -> bool
 }
 
 /// Whether a field is one of these.
-#[tactic(auto, unfolding(mv_json::specs::Met::IsOneOf))]
+#[tactic(auto, unfolding(mv_json::specs::inside::Met::IsOneOf))]
 fn is_one_of(field: LineField, fields: &[LineField]) -> bool
     ensures { IsTrue result → IsOneOf fields.now field }
 {

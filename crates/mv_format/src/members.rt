@@ -2,7 +2,8 @@
 
 ghost use Rattle.std.specs.Prelude.{◌≡◌, ◌++◌, IfOk};
 ghost use Rattle.mv_format.specs.Words.{object, value_of};
-ghost use Rattle.mv_format.specs.Writing.{Adds, Appended, change_value, national_value, members_of, member_tokens};
+ghost use Rattle.mv_format.specs.Writing.{Adds, Appended, change_value, national_value, members_of};
+ghost use Rattle.mv_format.specs.inside.Writing.{member_tokens};
 
 use crate::to_json::write_list;
 use crate::{ToJson, append_json};

@@ -2,7 +2,7 @@
 #![tactic(auto, unfolding(crate::specs::Requests::request_at))]
 
 ghost use Rattle.mv_format.specs.Words.{GivesOr, view};
-ghost use Rattle.mv_format.specs.LineParts.{MayGive};
+ghost use Rattle.mv_format.specs.inside.LineParts.{MayGive};
 ghost use Rattle.mv_format.specs.Requests.{request_at, read_request, read_line};
 
 use crate::field_reading::{gtin_of, message_of, number_of, serial_of};

@@ -3,7 +3,7 @@
 ghost use Rattle.std.specs.Prelude.{◌≡◌, ◌∷◌, Ok, IfOk, IfSome, MatchOption};
 ghost use Rattle.mv_format.specs.Words.{Data, begin_object, end_object, key};
 ghost use Rattle.mv_format.specs.Fields.{field_name};
-ghost use Rattle.mv_format.specs.LineParts.{Asks, BeginWithEntries, BeginWithPart, HasEntries};
+ghost use Rattle.mv_format.specs.inside.LineParts.{Asks, BeginWithEntries, BeginWithPart, HasEntries};
 ghost use Rattle.mv_format.specs.Requests.{read_line, read_request};
 
 use crate::kind::kind_of;

@@ -4,14 +4,14 @@ pub use Rattle.mv_hub.specs.BatchLinks.{IsAscendingList, IsChain, batch_cmp, lin
 unfoldable pub use Rattle.mv_hub.specs.BatchLinks.{linked_to}
 pub use Rattle.mv_hub.specs.Hub.{HubState, items_on, new_hub, next_items, sent_of, with_relayed}
 unfoldable pub use Rattle.mv_hub.specs.Hub.{busy_party, is_busy}
-pub use Rattle.mv_hub.specs.Kept.{AreTables, Carries, IsKept, IsRouting, PushesItems, PushesRow, carried_by, gain_of, link_at, receipt_to, sent_table}
+pub use Rattle.mv_hub.specs.inside.Kept.{AreTables, Carries, IsKept, IsRouting, PushesItems, PushesRow, carried_by, gain_of, link_at, receipt_to, sent_table}
 pub use Rattle.mv_hub.specs.Links.{link_items_after}
 unfoldable pub use Rattle.mv_hub.specs.Links.{gained, link_items}
 pub use Rattle.mv_hub.specs.Listing.{Listing, distinct, is_same_listing}
 pub use Rattle.mv_hub.specs.Parties.{all_markets, has_market, has_twice, served_by, serves_one}
 pub use Rattle.mv_hub.specs.Record.{is_open, product_in, routed_count, routed_from}
 unfoldable pub use Rattle.mv_hub.specs.Record.{last_product}
-pub use Rattle.mv_hub.specs.Tables.{AreNoted, Gathers, is_found, LinkTable, catalogue_after, catalogue_in, linked_in, listing_equiv, no_catalogue}
+pub use Rattle.mv_hub.specs.inside.Tables.{AreNoted, Gathers, is_found, LinkTable, catalogue_after, catalogue_in, linked_in, listing_equiv, no_catalogue}
 pub use Rattle.mv_hub.specs.Targets.{is_query, is_target}
 unfoldable pub use Rattle.mv_hub.specs.Targets.{is_reached, reach}
 pub use Rattle.mv_link.proofs.CallerLemmas.{find-none_at, find-those, listed-in}

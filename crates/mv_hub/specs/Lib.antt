@@ -6,7 +6,6 @@ pub mod Links
 pub mod Listing
 pub mod Catalogue
 pub mod BatchLinks
-pub mod Tables
 pub mod Fault
 pub mod Hub
-pub mod Kept
+pub mod inside

@@ -5,7 +5,7 @@ ghost use Rattle.mv_hub.specs.Words.{IsSquare, option_copied};
 ghost use Rattle.mv_hub.specs.Record.{routed_count, last_markets, is_open};
 ghost use Rattle.mv_hub.specs.Catalogue.{catalogue_of};
 ghost use Rattle.mv_hub.specs.BatchLinks.{linked_to, IsDescendant, IsAscendingList};
-ghost use Rattle.mv_hub.specs.Kept.{Carries};
+ghost use Rattle.mv_hub.specs.inside.Kept.{Carries};
 
 use crate::trail::AuditTrail;
 use crate::{Catalogue, Entry, Parties};
@@ -56,7 +56,7 @@ impl Drop for Hub {
 
 impl Model for Hub {
     ghost use Rattle.mv_hub.specs.Hub.{HubState};
-    ghost use Rattle.mv_hub.specs.Kept.{IsKept, sent_table};
+    ghost use Rattle.mv_hub.specs.inside.Kept.{IsKept, sent_table};
 
     ghost Value = { HubState };
 

@@ -3,8 +3,8 @@
 
 ghost use Rattle.std.specs.Prelude.{◌≡◌, ◌++◌, ◌∷◌, [], List, OnOk, OnErr};
 ghost use Rattle.mv_hub.specs.Words.{BatchKey as ABatch, Entry as AnEntry};
-ghost use Rattle.mv_hub.specs.Tables.{linked_in};
-ghost use Rattle.mv_hub.specs.Kept.{AreTables};
+ghost use Rattle.mv_hub.specs.inside.Tables.{linked_in};
+ghost use Rattle.mv_hub.specs.inside.Kept.{AreTables};
 
 use crate::Entry;
 use crate::trail::batch_links::add_link;
@@ -34,7 +34,7 @@ pub(crate) struct AuditTrail {
 impl Model for AuditTrail {
     ghost use Rattle.std.specs.Prelude.{List};
     ghost use Rattle.mv_hub.specs.declared.entry.Entry.{Entry as AnEntry};
-    ghost use Rattle.mv_hub.specs.Kept.{AreTables};
+    ghost use Rattle.mv_hub.specs.inside.Kept.{AreTables};
 
     ghost Value = { List AnEntry };
 

@@ -1,6 +1,6 @@
 -- What stands in the fields of a message: its tokens, and what is read of it.
-use Rattle.mv_json.proofs.Words.{◌≡◌, ◌∙◌, ℕ, Bool, true, false, List, [], ◌∷◌, ◌++◌, length, map, set, ap, sym, subst, refl, arith, Option, Some, None, Result, Ok, All, Contains, is_some, IsUtf8, ◌≢◌, All-map, All-set, AllByRecursion, BeginWith, BeginWithMessage, BeginWithPart, BeginWithTexts, Data, Entry, Field, HasEntries, IsCode, IsMarket, IsPart, IsPlace, IsTaken, IsThere, Message, PackFault, StartWithPart, Token, array, as_bool, as_null, as_str, begin_array, converted, deep_in, end_array, entry, entry_name, field_name, get, items, key, keys_of, list_at, most_markets, most_serials, null, of_items, of_json, read_bytes, read_code, read_market, string, strings, there, tokens, value, value-begin_array, value_is, whole, whole_number}
-use Rattle.mv_json.proofs.MetLemmas.{AreMet, one_more_met, weaker, text_begins, whole_begins}
+use Rattle.mv_json.proofs.Words.{◌≡◌, ◌∙◌, ◌≤◌, ℕ, Bool, true, false, List, [], ◌∷◌, ◌++◌, length, map, set, ap, sym, subst, refl, arith, Option, Some, None, Result, Ok, All, Contains, is_some, IsUtf8, ◌≢◌, All-map, All-set, AllByRecursion, BeginWith, BeginWithMessage, BeginWithPart, BeginWithTexts, Data, Entry, Field, HasEntries, IsCode, IsListOf, IsMarket, IsPart, IsPlace, IsTaken, IsThere, Message, PackFault, Token, array, as_bool, as_null, as_str, begin_array, end_array, entry, entry_name, field_name, get, items, key, keys_of, list_at, most_markets, most_serials, of_items, read_bytes, read_code, read_market, strings, there, tokens, value, value-begin_array, value_is, whole_number}
+use Rattle.mv_json.proofs.MetLemmas.{AreMet, one_more_met, weaker}
 use Rattle.mv_json.proofs.ReadingLemmas.{none_named, Inverts, codes_inverted, markets_inverted, list_tells}
 use Rattle.mv_json.proofs.ValueLemmas.{utf8_test}
 use Rattle.mv_json.specs.declared.object.Place.{Place}
@@ -41,26 +41,13 @@ texts_parsed reader Holds good ts (x ∷ xs) rest (more, (text, is, read), then)
     }
 
 -- a list of texts, behind the bracket that opens it
-listed : (reader : List ℕ → Result (List ℕ) PackFault) (Holds : List ℕ → Type 0) → Inverts reader (λ t. t) Holds → (ts list rest : List Token) (xs : List (List ℕ)) → ts ≡ begin_array ∷ list
-    → BeginWithTexts reader list xs rest → BeginWith 1 ts (array (strings xs)) rest × AllByRecursion Holds xs
-listed reader Holds good ts list rest xs opens has = grind (arith, texts_parsed reader Holds good list xs rest has, value-begin_array)
-
--- tokens that say a part, which is no object, are a value that says it
-part_starts : (ts rest : List Token) (part : Part) → StartWithPart ts part rest → BeginWithPart 1 ts part rest
-part_starts ts rest (parts.Markets x) (list, opens, has, count) =
-    let (begins, hold) = listed read_market IsMarket markets_inverted ts list rest x.items opens has in
-    (array (strings x.items), begins, (refl, (count.0, count.1, hold)))
-part_starts ts rest parts.Null is = (null, rw is (λ depth h. ap (converted of_json) (value_is depth (token.null ∷ rest))), refl)
-part_starts ts rest (parts.Serials x) (list, opens, has, count) =
-    let (begins, hold) = listed read_code IsCode codes_inverted ts list rest x.items opens has in
-    (array (strings x.items), begins, (refl, (count.0, count.1, hold)))
-part_starts ts rest (parts.Text x) is = (string x.now, rw is (text_begins 1 x.now rest), refl)
-part_starts ts rest (parts.Truth x) is = grind (arith, value_is)
-part_starts ts rest (parts.Whole x) (text, is, numbered) = (whole x, rw is (whole_begins 1 x text rest numbered), refl)
-part_starts ts rest part says = absurd says
-
-pub part_begins : (is_inside : Bool) (ts rest : List Token) (part : Part) → StartWithPart ts part rest → BeginWithPart (deep_in is_inside) ts part rest
-part_begins is_inside ts rest part says = grind (arith, part_starts)
+pub listed : (reader : List ℕ → Result (List ℕ) PackFault) (Holds : List ℕ → Type 0) → Inverts reader (λ t. t) Holds → (most : ℕ) (list rest : List Token) (xs : List (List ℕ))
+    → BeginWithTexts reader list xs rest → (1 ≤ length xs) × (length xs ≤ most)
+    → (found : Data) × BeginWith 1 (begin_array ∷ list) found rest × ((found ≡ array (strings xs)) × IsListOf Holds most xs)
+listed reader Holds good most list rest xs has count =
+    let read = texts_parsed reader Holds good list xs rest has in
+    let begins : BeginWith 1 (begin_array ∷ list) (array (strings xs)) rest = grind (arith, read, value-begin_array) in
+    (array (strings xs), begins, (refl, (count.0, count.1, read.hold)))
 
 -- ---- names
 

@@ -12,16 +12,20 @@ pub use Rattle.mv_json.specs.Meanings.{AreLegal, AreSpelled, EachHolds, IsListOf
 pub use Rattle.mv_json.specs.Members.{HasOnly, first_unknown, keys_of}
 pub use Rattle.mv_json.specs.Messages.{message_version, read_bytes, value_in, value_of}
 unfoldable pub use Rattle.mv_json.specs.Messages.{read_message}
-pub use Rattle.mv_json.specs.Met.{BeginWith, HasMet}
-unfoldable pub use Rattle.mv_json.specs.Met.{IsOneOf}
-pub use Rattle.mv_json.specs.Parts.{BeginWithMessage, BeginWithPart, BeginWithTexts, HasEntries, IsPart, IsPlace, IsTaken, IsThere, StartWithPart, deep_in, entry, entry_name}
-unfoldable pub use Rattle.mv_json.specs.Parts.{there}
+pub use Rattle.mv_json.specs.Met.{BeginWith}
+pub use Rattle.mv_json.specs.inside.Met.{HasMet}
+unfoldable pub use Rattle.mv_json.specs.inside.Met.{IsOneOf}
+pub use Rattle.mv_json.specs.Parts.{BeginWithMessage}
+pub use Rattle.mv_json.specs.inside.Parts.{BeginWithPart, BeginWithTexts, HasEntries, IsPart, IsPlace, IsTaken, IsThere, deep_in, entry, entry_name}
+unfoldable pub use Rattle.mv_json.specs.inside.Parts.{there}
 pub use Rattle.mv_json.specs.Reading.{read_items, whole_number}
 unfoldable pub use Rattle.mv_json.specs.Reading.{list_at}
-pub use Rattle.mv_json.specs.Shapes.{IsIn, HasWords, IsLegal, Reads, SpellsFound, contents_of, fields_of, form_name, form_named, form_of, found_of, found_parts, found_value, found_version, making_of, meaning_of, names_of, pack_found, present_at, present_fields}
+pub use Rattle.mv_json.specs.Shapes.{IsIn, IsLegal, Reads, SpellsFound, contents_of, fields_of, form_name, form_named, form_of, found_of, found_parts, found_value, found_version, making_of, meaning_of, names_of, pack_found, present_at, present_fields}
+pub use Rattle.mv_json.specs.inside.Shapes.{HasWords}
 unfoldable pub use Rattle.mv_json.specs.Shapes.{form_at, message_at, present_of, version_at}
-pub use Rattle.mv_json.specs.Tokens.{Puts, members_of, members_put, tokens_of, version_member}
-unfoldable pub use Rattle.mv_json.specs.Tokens.{PutsValue}
+pub use Rattle.mv_json.specs.Tokens.{Puts, tokens_of}
+pub use Rattle.mv_json.specs.inside.Tokens.{members_of, members_put, version_member}
+unfoldable pub use Rattle.mv_json.specs.inside.Tokens.{PutsValue}
 pub use Rattle.mv_json.specs.Values.{since_two, strings, whole}
 pub use Rattle.mv_json.specs.declared.part.Entry.{Entry}
 pub use Rattle.mv_message.specs.declared.found.Found.{Found}

@@ -13,3 +13,4 @@ pub mod Met
 pub mod Parts
 pub mod Tokens
 pub mod Laws
+pub mod inside

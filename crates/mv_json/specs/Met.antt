@@ -1,21 +1,9 @@
 -- Fields of an object as they are met, one after the other, in any order; and the tokens of JSON that they are read from. What is met,
 -- and what it says of the value that stands there, is left open.
-use Rattle.std.specs.Prelude.{◌≡◌, ◌≤◌, ℕ, List, map, All, Contains, Some}
-use Rattle.mv_json.specs.Words.{AllByRecursion, Data, Members, Token, converted, get, object, of_json}
+use Rattle.std.specs.Prelude.{◌≡◌, ◌≤◌, ℕ, List, Some}
+use Rattle.mv_json.specs.Words.{Data, Token, converted, of_json}
 use Rattle.json.specs.Json.{value}
-use Rattle.mv_json.specs.Members.{keys_of}
 
 -- the tokens are this value of JSON, wherever it may nest so deep, then the rest
 abbrev pub BeginWith : ℕ → List Token → Data → List Token → Type 0
 BeginWith deep ts found rest = (depth : ℕ) → deep ≤ depth → converted of_json (value depth ts) ≡ Some (found, rest)
-
--- an object has what was met under these names, each saying so of what stands there, and nothing else
-pub record HasMet {Met : Type 0} (name : Met → List ℕ) (Says : Data → Met → Type 0) (found : Data) (all : List Met) : Type 0 where
-  pub members : Members
-  pub is : found ≡ object members
-  pub says : All (λ met. (part : Data) × (get (name met) found ≡ Some part) × Says part met) all
-  pub only : AllByRecursion (Contains (map name all)) (keys_of members)
-
--- a field is one of these
-unfoldable pub IsOneOf : {Field : Type 0} → List Field → Field → Type 0
-IsOneOf listed field = Contains listed field

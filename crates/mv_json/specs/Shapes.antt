@@ -9,7 +9,7 @@ use Rattle.mv_json.specs.Values.{whole, since_two}
 use Rattle.mv_message.specs.declared.found.Found.{Found}
 use Rattle.mv_message.specs.declared.found.Found.TheVariants.{Absent, Present}
 use Rattle.mv_pack.specs.Keys.{pack_key, batch_key}
-use Rattle.std.specs.Prelude.{⊤, ◌==◌, if◌then◌else◌, Option, Some, None, Result, Ok, Err, ℕ, List, [], ◌∷◌, codes, bytes_eq, find, ◌≡◌, false, is_some, ◌<◌, ◌^◌, IfSome, MatchOption}
+use Rattle.std.specs.Prelude.{⊤, ◌==◌, if◌then◌else◌, Option, Some, None, Result, Ok, Err, ℕ, List, [], ◌∷◌, codes, bytes_eq, find, ◌≡◌, false, is_some, IfSome, MatchOption}
 use Rattle.mv_json.specs.declared.field.Field.TheVariants as fields
 use Rattle.mv_json.specs.declared.form.Form.TheVariants as forms
 use Rattle.mv_message.specs.declared.message.Message.TheVariants as messages
@@ -189,15 +189,6 @@ contents_of version (messages.Answer asker q key found) = (asker, (found, (key.g
 -- what each field says is legal
 abbrev pub IsLegal : Message → Type 0
 IsLegal message = AreLegal (meaning_of Two (form_of message)) (fields_of (form_of message)) (contents_of Two message)
-
--- the numbers that a message holds have 64 bits, as their types say
-abbrev pub HasWords : Message → Type 0
-HasWords (messages.Answer asker q key found) = (asker < 2 ^ 64) × (q < 2 ^ 64)
-HasWords (messages.Recall key at) = at < 2 ^ 64
-HasWords (messages.Repack before before_serials after after_serials at) = at < 2 ^ 64
-HasWords (messages.Status key to user at) = at < 2 ^ 64
-HasWords (messages.Withdraw gtin at) = at < 2 ^ 64
-HasWords message = ⊤
 
 -- ---- which JSON values are which messages, as a relation
 

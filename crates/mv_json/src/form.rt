@@ -3,7 +3,7 @@
 ghost use Rattle.std.specs.Prelude.{◌≡◌, filter};
 ghost use Rattle.mv_json.specs.Shapes.{form_named, form_at, fields_of, version_at};
 ghost use Rattle.mv_json.specs.Fields.{is_in};
-ghost use Rattle.mv_json.specs.Parts.{Gives};
+ghost use Rattle.mv_json.specs.inside.Parts.{Gives};
 
 use crate::object::Object;
 use crate::reading::text_at;

@@ -6,7 +6,7 @@ ghost use Rattle.mv_json.specs.Fields.{is_in};
 ghost use Rattle.mv_json.specs.Shapes.{present_fields, present_at, found_of, pack_found};
 ghost use Rattle.mv_json.specs.Meanings.{part_of};
 ghost use Rattle.mv_json.specs.Reading.{GivesOr};
-ghost use Rattle.mv_json.specs.Parts.{Gives, MayGive, IsPart, IsValue, Stands};
+ghost use Rattle.mv_json.specs.inside.Parts.{Gives, MayGive, IsPart, IsValue, Stands};
 
 use crate::form::Version;
 use crate::members::first_unknown;

@@ -1,6 +1,6 @@
 //! The JSON form of messages.
 //!
-//! Used by the program alone. Its contract: a value is read as a message exactly where the definitions in `specs/` say
+//! Used by all that reads or writes lines. Its contract: a value is read as a message exactly where the definitions in `specs/` say
 //! so, else the first fault in their order is answered; what is written is read back. This crate knows no link, no hub
 //! and no line of the program.
 //!

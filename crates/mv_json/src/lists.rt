@@ -4,11 +4,11 @@ ghost use Rattle.std.specs.Prelude.{◌≡◌, ◌≢◌, IfOk, IfErr, MatchResu
 ghost use Rattle.mv_json.specs.Words.{PackFault as AFault, as_str, items_view, list_all, read_code, read_market, view};
 ghost use Rattle.mv_json.specs.Limits.{most_markets, most_serials};
 ghost use Rattle.mv_json.specs.Reading.{texts_at, read_item, list_at};
-ghost use Rattle.mv_json.specs.Parts.{Takes};
+ghost use Rattle.mv_json.specs.inside.Parts.{Takes};
 
 use crate::object::Object;
 use crate::part::{Part, take};
-use crate::reading::packed;
+use crate::reading::in_field;
 use crate::{Field, MessageFault};
 use mv_message::{Markets, Serials};
 use mv_pack::{Market, PackFault, Serial};
@@ -116,7 +116,7 @@ fn one_in<T: Listed>(value: &Value, field: Field) -> Result<T, MessageFault>
     ensures { result ≡ read_item T.reads field (view value.now) }
 {
     let text = value.as_str().ok_or(MessageFault::Kind(field))?;
-    packed(field, T::from_text(text))
+    in_field(field, T::from_text(text))
 }
 
 /// A value that stands in a list as its text.

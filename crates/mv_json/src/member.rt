@@ -2,7 +2,8 @@
 
 ghost use Rattle.std.specs.Prelude.{map};
 ghost use Rattle.serde_json.specs.Data.{array, object};
-ghost use Rattle.mv_json.specs.Tokens.{said_value, members_of, members_put, Puts, PutsValue, tokens_of};
+ghost use Rattle.mv_json.specs.Tokens.{Puts, tokens_of};
+ghost use Rattle.mv_json.specs.inside.Tokens.{said_value, members_of, members_put, PutsValue};
 ghost use Rattle.mv_json.specs.Values.{strings};
 
 use crate::Field;
@@ -33,7 +34,7 @@ pub(crate) enum Said<'a> {
 }
 
 /// Writes the object of these members, which stand in byte order of their names.
-#[tactic(auto, unfolding(crate::specs::Tokens::PutsValue))]
+#[tactic(auto, unfolding(crate::specs::inside::Tokens::PutsValue))]
 pub(crate) fn put_object(
     writer: &mut Writer,
     members: &[(Field, Said<'_>)],
@@ -46,7 +47,7 @@ pub(crate) fn put_object(
 }
 
 /// Writes these members of an object that was begun.
-#[tactic(auto, unfolding(crate::specs::Tokens::PutsValue))]
+#[tactic(auto, unfolding(crate::specs::inside::Tokens::PutsValue))]
 pub(crate) fn put_members(
     writer: &mut Writer,
     members: &[(Field, Said<'_>)],
@@ -61,7 +62,7 @@ pub(crate) fn put_members(
 }
 
 /// Writes what stands under a name.
-#[tactic(auto, unfolding(crate::specs::Tokens::PutsValue))]
+#[tactic(auto, unfolding(crate::specs::inside::Tokens::PutsValue))]
 pub(crate) fn put_said(writer: &mut Writer, said: Said<'_>) -> Result<(), AllocError>
     ensures { PutsValue result writer.old writer.new (said_value said.entry) }
 {

@@ -3,7 +3,8 @@
 ghost use Rattle.std.specs.Prelude.{◌≡◌};
 ghost use Rattle.mv_json.specs.Shapes.{found_version, found_value};
 ghost use Rattle.mv_json.specs.Messages.{value_of};
-ghost use Rattle.mv_json.specs.Tokens.{Puts, PutsValue, members_put, version_member};
+ghost use Rattle.mv_json.specs.Tokens.{Puts};
+ghost use Rattle.mv_json.specs.inside.Tokens.{PutsValue, members_put, version_member};
 
 use crate::Field;
 use crate::form::Version;
@@ -175,7 +176,7 @@ fn put_repack<'a>(
 }
 
 /// Writes a withdrawal.
-#[tactic(auto, unfolding(crate::specs::Tokens::PutsValue))]
+#[tactic(auto, unfolding(crate::specs::inside::Tokens::PutsValue))]
 fn put_withdraw(writer: &mut Writer, gtin: &Gtin, at: Moment) -> Result<(), AllocError>
     ensures { PutsValue result writer.old writer.new (value_of (Message.Withdraw gtin.now at)) }
 {
@@ -201,7 +202,7 @@ fn put_query(writer: &mut Writer, key: &PackKey) -> Result<(), AllocError>
 }
 
 /// Writes an answer: of the version that says all of what was found.
-#[tactic(auto, unfolding(crate::specs::Tokens::PutsValue))]
+#[tactic(auto, unfolding(crate::specs::inside::Tokens::PutsValue))]
 fn put_answer(
     writer: &mut Writer,
     asker: Party,

@@ -3,7 +3,8 @@
 ghost use Rattle.std.specs.Prelude.{◌≡◌, IfErr, IfOk, IfSome, Ok};
 ghost use Rattle.mv_json.specs.Words.{Data, view};
 ghost use Rattle.mv_json.specs.Messages.{MayTakeMemory, read_bytes, read_message};
-ghost use Rattle.mv_json.specs.Parts.{BeginWithMessage, Stands};
+ghost use Rattle.mv_json.specs.Parts.{BeginWithMessage};
+ghost use Rattle.mv_json.specs.inside.Parts.{Stands};
 ghost use Rattle.mv_json.specs.Reading.{GivesOr};
 
 use crate::MessageFault;

@@ -6,8 +6,8 @@ ghost use Rattle.mv_json.specs.Words.{Data, as_bool, as_null, as_str, get};
 ghost use Rattle.mv_json.specs.Fields.{field_name};
 ghost use Rattle.mv_json.specs.Reading.{whole_number};
 ghost use Rattle.mv_json.specs.Members.{HasOnly};
-ghost use Rattle.mv_json.specs.Met.{IsOneOf};
-ghost use Rattle.mv_json.specs.Parts.{IsPlace, IsThere, Stands};
+ghost use Rattle.mv_json.specs.inside.Met.{IsOneOf};
+ghost use Rattle.mv_json.specs.inside.Parts.{IsPlace, IsThere, Stands};
 
 use crate::Field;
 use crate::part::{Entry, Part, find, is_same};
@@ -33,7 +33,7 @@ pub(crate) enum Place<'a> {
 
 impl Object<'_> {
     /// What stands in a field.
-    #[tactic(auto, using(crate::proofs::PartLemmas::not_there), unfolding(crate::specs::Parts::there))]
+    #[tactic(auto, using(crate::proofs::PartLemmas::not_there), unfolding(crate::specs::inside::Parts::there))]
     pub(crate) fn get(&self, field: Field) -> Option<Place<'_>>
         ensures { (value : Data) → Stands value self.now
             → MatchOption result (get (field_name field) value ≡ None)
@@ -62,7 +62,7 @@ impl Object<'_> {
 }
 
 /// Whether a field is one of these.
-#[tactic(auto, unfolding(crate::specs::Met::IsOneOf))]
+#[tactic(auto, unfolding(crate::specs::inside::Met::IsOneOf))]
 fn is_one_of(field: Field, fields: &[Field]) -> bool
     ensures { IsTrue result → IsOneOf fields.now field }
 {

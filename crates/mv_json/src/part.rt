@@ -1,7 +1,7 @@
 //! The fields of an object as they are met, in any order, and what stands in each.
 
 ghost use Rattle.std.specs.Prelude.{◌≡◌, ◌≢◌, ◌<◌, ◌∷◌, ◌++◌, [], All, Contains, MatchBool, MatchOption, IsTrue, IfSome, get_or, length};
-ghost use Rattle.mv_json.specs.Parts.{entry, IsTaken};
+ghost use Rattle.mv_json.specs.inside.Parts.{entry, IsTaken};
 ghost use Rattle.mv_json.specs.declared.part.Entry.{Entry as AnEntry};
 
 use crate::Field;

@@ -1,10 +1,10 @@
 //! Takes what stands in the fields of a message by its tokens, with no value in between.
 
-ghost use Rattle.std.specs.Prelude.{◌≡◌, ◌≤◌, ◌∷◌, length, Ok, IfSome, MatchOption, suc};
+ghost use Rattle.std.specs.Prelude.{◌≡◌, ◌≤◌, ℕ, List, ◌∷◌, length, Ok, IfSome, MatchOption, suc};
 ghost use Rattle.json.specs.Reads.{token_of};
-ghost use Rattle.json.specs.Token.{begin_array, begin_object, end_object, key};
+ghost use Rattle.json.specs.Token.{Token as AToken, begin_array, begin_object, end_object, key};
 ghost use Rattle.mv_json.specs.Fields.{field_name};
-ghost use Rattle.mv_json.specs.Parts.{BeginWithPart, BeginWithEntries, BeginWithText, BeginWithTexts, StartWithPart, deep_in};
+ghost use Rattle.mv_json.specs.inside.Parts.{BeginWithPart, BeginWithEntries, BeginWithText, BeginWithTexts, deep_in};
 
 use crate::Field;
 use crate::found_reading::sighting_in;
@@ -19,7 +19,8 @@ use std::alloc::Global;
 /// How many fields a message has at most.
 const MOST_FIELDS: usize = 12;
 
-/// Takes the rest of an object, behind its opening brace, with its fields in any order, each once. One inside another holds no further one.
+/// Takes the rest of an object, behind its opening brace, with its fields in any order, each once. One inside another holds no further
+/// one, and no list.
 #[cycle(members)]
 pub(crate) fn take_members<'a>(
     alloc: Global,
@@ -113,7 +114,6 @@ fn likely_field(name: &[u8]) -> Option<Field> {
 
 /// Takes what stands in a field.
 #[cycle(members)]
-#[tactic(auto, using(crate::proofs::PartLemmas::part_begins))]
 #[inline(always)]
 fn take_part<'a>(
     alloc: Global,
@@ -125,7 +125,8 @@ fn take_part<'a>(
 {
     match reader.next()? {
         Token::BeginObject if !is_inside => take_found(alloc, reader),
-        token => take_rest(alloc, reader, field, token),
+        Token::BeginArray if !is_inside => take_list_part(alloc, reader, field),
+        token => single(token),
     }
 }
 
@@ -133,7 +134,7 @@ fn take_part<'a>(
 #[cycle(members)]
 fn take_found<'a>(alloc: Global, reader: &mut Reader<'a>) -> Option<Part<'a>>
     ensures { IfSome result (λ part.
-        BeginWithPart 2 (begin_object ∷ reader.old) part reader.new) }
+        BeginWithPart 1 (begin_object ∷ reader.old) part reader.new) }
 {
     let object = Object::Met(take_members(alloc, reader, true)?);
     let sighting = sighting_in(&object)?;
@@ -148,29 +149,24 @@ fn boxed(alloc: Global, sighting: Sighting) -> Option<Boxed<Sighting>>
     Boxed::new(alloc, sighting).ok()
 }
 
-/// Takes what stands in a field and is no object, behind its first token.
+/// What a token says by itself, which is no object and no list.
+#[tactic(auto, using(json::proofs::Grammar::value_is, crate::proofs::MetLemmas::whole_begins))]
 #[inline(always)]
-fn take_rest<'a>(
-    alloc: Global,
-    reader: &mut Reader<'a>,
-    field: Field,
-    token: Token<'a>,
-) -> Option<Part<'a>>
-    ensures { IfSome result (λ part. StartWithPart (token_of token.entry ∷ reader.old) part reader.new) }
+fn single<'a>(token: Token<'a>) -> Option<Part<'a>>
+    ensures { IfSome result (λ part. (deep : ℕ) (rest : List AToken) → BeginWithPart deep (token_of token.entry ∷ rest) part rest) }
 {
     match token {
         Token::String(text) => Some(Part::Text(text)),
         Token::Number(text) => Some(Part::Whole(whole_of(text)?)),
         Token::Bool(truth) => Some(Part::Truth(truth)),
         Token::Null => Some(Part::Null),
-        Token::BeginArray => take_list_part(alloc, reader, field),
         _ => None,
     }
 }
 
 /// Takes the rest of a list, behind its opening bracket, by the field's kind.
 fn take_list_part<'a>(alloc: Global, reader: &mut Reader<'a>, field: Field) -> Option<Part<'a>>
-    ensures { IfSome result (λ part. StartWithPart (begin_array ∷ reader.old) part reader.new) }
+    ensures { IfSome result (λ part. BeginWithPart 1 (begin_array ∷ reader.old) part reader.new) }
 {
     match field {
         Field::AfterSerials | Field::BeforeSerials | Field::Serials => {

@@ -3,7 +3,7 @@
 
 ghost use Rattle.std.specs.Prelude.{◌≡◌, ◌≢◌, IfErr, IsTrue};
 ghost use Rattle.mv_json.specs.Messages.{holds_texts};
-ghost use Rattle.mv_json.specs.Parts.{Gives, MayGive, IsValue};
+ghost use Rattle.mv_json.specs.inside.Parts.{Gives, MayGive, IsValue};
 ghost use Rattle.mv_json.specs.Shapes.{message_at};
 ghost use Rattle.mv_json.specs.declared.form.Version.{Version as AVersion};
 

@@ -5,7 +5,7 @@ ghost use Rattle.std.specs.Prelude.{◌≡◌, ◌≢◌, IfErr, IsOk, MatchResu
 ghost use Rattle.mv_json.specs.Words.{Data, as_bool, as_str, read_code, read_expiry, read_gtin, read_moment, standing_named};
 ghost use Rattle.mv_json.specs.Meanings.{part_of};
 ghost use Rattle.mv_json.specs.Reading.{member_at, field_at, map_err, read_at, standing_at, free_text_at, whole_number, whole_from};
-ghost use Rattle.mv_json.specs.Parts.{Gives, MayGive, IsPlace, Stands, there};
+ghost use Rattle.mv_json.specs.inside.Parts.{Gives, MayGive, IsPlace, Stands, there};
 
 use crate::form::Version;
 use crate::object::{Object, Place};
@@ -43,7 +43,7 @@ pub(crate) fn text_at<'b>(object: &'b Object<'_>, field: Field) -> Result<&'b st
 }
 
 /// What a reader of values gave of a field, whose fault is M6.
-pub(crate) fn packed<T: Drop>(field: Field, read: Result<T, PackFault>) -> Result<T, MessageFault>
+pub(crate) fn in_field<T: Drop>(field: Field, read: Result<T, PackFault>) -> Result<T, MessageFault>
     ensures { result ≡ map_err (MessageFault.Pack field) read }
 {
     read.map_err(|fault| MessageFault::Pack(field, fault))
@@ -53,28 +53,28 @@ pub(crate) fn packed<T: Drop>(field: Field, read: Result<T, PackFault>) -> Resul
 pub(crate) fn gtin_at(object: &Object<'_>, field: Field) -> Result<Gtin, MessageFault>
     ensures { Gives (read_at as_str read_gtin field) object.now result }
 {
-    packed(field, Gtin::read(text_at(object, field)?))
+    in_field(field, Gtin::read(text_at(object, field)?))
 }
 
 /// The serial number of a field: M3, M5, M6.
 pub(crate) fn serial_at(object: &Object<'_>, field: Field) -> Result<Serial, MessageFault>
     ensures { Gives (read_at as_str read_code field) object.now result }
 {
-    packed(field, Serial::read(text_at(object, field)?))
+    in_field(field, Serial::read(text_at(object, field)?))
 }
 
 /// The batch number of a field: M3, M5, M6.
 pub(crate) fn batch_at(object: &Object<'_>, field: Field) -> Result<Batch, MessageFault>
     ensures { Gives (read_at as_str read_code field) object.now result }
 {
-    packed(field, Batch::read(text_at(object, field)?))
+    in_field(field, Batch::read(text_at(object, field)?))
 }
 
 /// The expiry date of a field: M3, M5, M6.
 pub(crate) fn expiry_at(object: &Object<'_>, field: Field) -> Result<Expiry, MessageFault>
     ensures { Gives (read_at as_str read_expiry field) object.now result }
 {
-    packed(field, Expiry::read(text_at(object, field)?))
+    in_field(field, Expiry::read(text_at(object, field)?))
 }
 
 /// The national number, or none where there is `null`, and in version 1, which has no such field: M3, M5, M6.
@@ -93,7 +93,7 @@ pub(crate) fn national_at(
         return Ok(None);
     }
     let text = found.as_str().ok_or(MessageFault::Kind(field))?;
-    Ok(Some(packed(field, National::read(text))?))
+    Ok(Some(in_field(field, National::read(text))?))
 }
 
 /// The standing of a field: M3, M5.
@@ -154,7 +154,7 @@ pub(crate) fn moment_at(object: &Object<'_>, field: Field) -> Result<Moment, Mes
     let seconds = member_at(object, field)?
         .as_u64()
         .ok_or(MessageFault::Kind(field))?;
-    packed(field, Moment::of(seconds))
+    in_field(field, Moment::of(seconds))
 }
 
 /// The whole number of a field, from `least` to 4,294,967,295: M3, M5.

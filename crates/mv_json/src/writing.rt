@@ -3,7 +3,8 @@
 ghost use Rattle.std.specs.Prelude.{◌≡◌, ◌++◌, IfOk, IfErr, OnOk, OnErr, IsUtf8, Ok, string_bytes};
 ghost use Rattle.mv_json.specs.Words.{compact_text, view};
 ghost use Rattle.mv_json.specs.Messages.{value_of, read_bytes};
-ghost use Rattle.mv_json.specs.Shapes.{HasWords, IsLegal};
+ghost use Rattle.mv_json.specs.Shapes.{IsLegal};
+ghost use Rattle.mv_json.specs.inside.Shapes.{HasWords};
 ghost use Rattle.mv_json.specs.Tokens.{Puts, tokens_of};
 
 use crate::MessageFault;
@@ -32,7 +33,7 @@ pub fn write_text(alloc: Global, message: &Message, out: &mut Vec<u8>) -> Result
 
 /// Writes the value of a message, with its keys in byte order, as a value of what a writer has begun. The only refusal is want of
 /// memory.
-#[tactic(auto, unfolding(crate::specs::Tokens::PutsValue))]
+#[tactic(auto, unfolding(crate::specs::inside::Tokens::PutsValue))]
 pub fn write_message(writer: &mut Writer, message: &Message) -> Result<(), AllocError>
     ensures { Puts result writer.old writer.new (tokens_of (value_of message.now)) }
 {

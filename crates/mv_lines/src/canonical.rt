@@ -1,12 +1,12 @@
 //! Runs messages, a line each.
 
 ghost use Rattle.std.specs.Prelude.{◌≡◌, ℕ, List, OnOk, IfOk, IfErr, IfSome};
-ghost use Rattle.std.specs.Io.KnownBytes.{Consumes, Appends};
+ghost use Rattle.std.specs.Io.KnownBytes.{Appends};
 ghost use Rattle.mv_json.specs.Messages.{read_bytes};
 ghost use Rattle.mv_json.specs.Reading.{GivesOr};
 ghost use Rattle.mv_lines.specs.Canon.{IsCanon, canon_of, canon_text};
 ghost use Rattle.mv_engine.specs.Replies.{Readied};
-ghost use Rattle.mv_engine.specs.Served.{Served, Ended};
+ghost use Rattle.mv_engine.specs.Served.{Served, EndedBy};
 
 use json::Scratch;
 use mv_engine::{Answering, ServeFault, answer_lines};
@@ -79,9 +79,8 @@ pub fn canon<R: Read, W: Write>(
     ensures ok { OnOk result (IfSome (R.remaining reader.old) (λ bytes.
         Served IsCanon tt bytes tt (W.contents writer.old) (W.contents writer.new))) }
     // The bytes are those that were read. The texts to which of their lines went out, the fault says.
-    ensures err { IfErr result (λ fault. (bytes : List ℕ)
-        × Consumes (R.remaining reader.old) (R.remaining reader.new) bytes
-        × Ended IsCanon fault tt bytes (W.contents writer.old) (W.contents writer.new)) }
+    ensures err { IfErr result (λ fault. EndedBy IsCanon fault tt
+        (R.remaining reader.old) (R.remaining reader.new) (W.contents writer.old) (W.contents writer.new)) }
 {
     let mut canonizer = Canonizer {
         alloc,

@@ -1,9 +1,8 @@
 //! Runs steps, a line each.
 
-ghost use Rattle.std.specs.Prelude.{ℕ, List, None, OnOk, IfErr, IfSome};
-ghost use Rattle.std.specs.Io.KnownBytes.{Consumes};
-ghost use Rattle.mv_engine.specs.Served.{Served, Ended};
-ghost use Rattle.mv_lines.specs.Sessions.{Open, IsReply};
+ghost use Rattle.std.specs.Prelude.{None, OnOk, IfErr};
+ghost use Rattle.mv_engine.specs.Served.{AllServed, EndedBy};
+ghost use Rattle.mv_lines.specs.Sessions.{IsReply};
 
 use crate::session::Session;
 use mv_engine::{ServeFault, answer_lines};
@@ -22,12 +21,10 @@ pub fn serve<R: Read, W: Write>(
     writer: &mut W,
 ) -> Result<(), ServeFault>
     // The input is answered whole: each reply is a right one to its line, each step's one that the list machine allows.
-    ensures ok { OnOk result (IfSome (R.remaining reader.old) (λ bytes. (after : Open)
-        × Served IsReply None bytes after (W.contents writer.old) (W.contents writer.new))) }
+    ensures ok { OnOk result (AllServed IsReply None (R.remaining reader.old) (W.contents writer.old) (W.contents writer.new)) }
     // The bytes are those that were read. Which replies to their lines went out, the fault says.
-    ensures err { IfErr result (λ fault. (bytes : List ℕ)
-        × Consumes (R.remaining reader.old) (R.remaining reader.new) bytes
-        × Ended IsReply fault None bytes (W.contents writer.old) (W.contents writer.new)) }
+    ensures err { IfErr result (λ fault. EndedBy IsReply fault None
+        (R.remaining reader.old) (R.remaining reader.new) (W.contents writer.old) (W.contents writer.new)) }
 {
     let mut session = Session::new(alloc);
     let ended = answer_lines(alloc, &mut session, reader, writer);
@@ -42,11 +39,9 @@ pub fn serve_last<R: Read, W: Write>(
     reader: &mut R,
     writer: &mut W,
 ) -> Result<(), ServeFault>
-    ensures ok { OnOk result (IfSome (R.remaining reader.old) (λ bytes. (after : Open)
-        × Served IsReply None bytes after (W.contents writer.old) (W.contents writer.new))) }
-    ensures err { IfErr result (λ fault. (bytes : List ℕ)
-        × Consumes (R.remaining reader.old) (R.remaining reader.new) bytes
-        × Ended IsReply fault None bytes (W.contents writer.old) (W.contents writer.new)) }
+    ensures ok { OnOk result (AllServed IsReply None (R.remaining reader.old) (W.contents writer.old) (W.contents writer.new)) }
+    ensures err { IfErr result (λ fault. EndedBy IsReply fault None
+        (R.remaining reader.old) (R.remaining reader.new) (W.contents writer.old) (W.contents writer.new)) }
 {
     let mut session = Session::new(alloc);
     let ended = answer_lines(alloc, &mut session, reader, writer);

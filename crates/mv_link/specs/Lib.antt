@@ -4,3 +4,4 @@ pub mod Receiving
 pub mod Sending
 pub mod Fault
 pub mod PartySets
+pub mod inside

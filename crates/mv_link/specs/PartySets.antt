@@ -16,7 +16,3 @@ has_party set party = bit_at set.bits party == 1
 -- the parties of a set, ascending
 unfoldable pub parties_in : PartySet → List ℕ
 parties_in set = those (has_party set) PARTIES_LIMIT
-
--- the set of no party
-abbrev pub no_parties : PartySet
-no_parties = record { bits = 0 }

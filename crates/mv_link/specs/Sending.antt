@@ -1,5 +1,5 @@
 -- What the sending end of a link is seen as.
-use Rattle.std.specs.Prelude.{◌≡◌, ◌==◌, ◌||◌, ℕ, ◌+◌, ◌-◌, ◌≤◌, nat_lt, nat_le, min, List, [], ◌∷◌, ◌++◌, length, Option, Some, None, if◌then◌else◌}
+use Rattle.std.specs.Prelude.{◌≡◌, ◌==◌, ◌||◌, ℕ, ◌+◌, ◌-◌, ◌≤◌, nat_lt, nat_le, List, [], ◌∷◌, ◌++◌, length, Option, Some, None, if◌then◌else◌}
 use Rattle.mv_link.specs.Words.{Frame, Gone, Item, LinkFault, NotSent, Nothing}
 use Rattle.circular_buffer.specs.Buffer.{keep_last}
 use Rattle.mv_link.specs.declared.limits.TheConstants.{WINDOW_LEAST, WINDOW_LIMIT, NUMBER_LIMIT}
@@ -43,13 +43,6 @@ HasRoom sending count = ((sending.total - sending.sent) + count ≤ sending.wind
 -- how many items a link may keep
 abbrev pub IsWindow : ℕ → Type 0
 IsWindow window = (WINDOW_LEAST ≤ window) × (window ≤ WINDOW_LIMIT)
-
--- what every sending end keeps: the last items, those not yet relayed among them
-pub record IsSending (sending : Sending) : Type 0 where
-  pub window : IsWindow sending.window
-  pub held : length sending.held ≡ min sending.window sending.total
-  pub pushed : sending.sent ≤ sending.total
-  pub waiting : sending.total - sending.sent ≤ sending.window
 
 -- a list of all that was pushed ends with what is held
 pub record EndsWithHeld (sending : Sending) (list : List Item) : Type 0 where

@@ -19,7 +19,8 @@ pub struct Outgoing {
 }
 
 impl Model for Outgoing {
-    ghost use Rattle.mv_link.specs.Sending.{Sending, IsSending};
+    ghost use Rattle.mv_link.specs.Sending.{Sending};
+    ghost use Rattle.mv_link.specs.inside.Sending.{IsSending};
 
     ghost Value = { Sending };
 

@@ -1,4 +1,4 @@
-//! A set of parties in one machine word. This file alone knows of bits: all else sees which parties a set has.
+//! A set of parties in one machine word. No other code knows of its bits: all else sees which parties a set has.
 
 ghost use Rattle.std.specs.Prelude.{◌≡◌, ◌<◌, ◌==◌, ◌&&◌, ◌||◌, ℕ, [], ◌∷◌, not, true, false, MatchOption};
 ghost use Rattle.mv_link.specs.PartySets.{has_party, parties_in};

@@ -27,8 +27,8 @@ pub record IsLawful (st : State) : Type 0 where
   pub of_record : IsLawfulRecord (length st.hub.parties) st.hub.entries
   pub of_party : (party : ℕ) → party < length st.hub.parties → IsLawfulAt st.hub party (site_of st party)
 
--- the links keep what the limits say, and there is a part for each party, whose number, count and limit are those that the system opened
--- with, and a list for each link
+-- the links have the window that the limits say, and there is a part for each party, whose number, count and limit are those that the
+-- system opened with, and a list for each link
 pub record IsWellFormed (st : State) : Type 0 where
   pub window : st.hub.window ≡ st.limits.window
   pub sites_each : length st.sites ≡ length st.hub.parties

@@ -58,7 +58,7 @@ apply_by st from to number rest look.Old = (Old number, with_wire st from to res
 apply_by st from to number rest (look.Gap expected) = (Gap number expected, with_wire st from to rest)
 apply_by st from to number rest look.Next = apply_next st from to number rest (slice_get (items_on st.hub from to) (number - 1))
 
--- The frame in front of a wire leaves it: what comes of this, by its number and those that stay. An empty wire is refused.
+-- what comes of the frame in front of a wire, by its number and those behind it; an empty wire is refused
 abbrev pub by_front : State → List ℕ → (ℕ → List ℕ → Reply × State) → Reply × State
 by_front st [] taken = refused WireEmpty st
 by_front st (number ∷ rest) taken = taken number rest

@@ -47,7 +47,7 @@ pub fn items_are_submitted()
     ensures rising { InLawfulStates NumbersRise }
 {}
 
-/// Of two lawful states, of which one follows the other, the headline holds: what was applied was submitted, in order and each
+/// Of two lawful states, of which one follows the other and is well formed, the headline holds: what was applied was submitted, in order and each
 /// once; over a link that was closed in the first nothing is applied in the second that was submitted since; and repositories
 /// with the same messages about a pack agree on it.
 #[tactic(auto, using(crate::proofs::HeadlineLemmas::headline))]
@@ -62,7 +62,7 @@ pub fn headlines_join()
     ensures { IsTransitive HeadlineHolds }
 {}
 
-/// The headline holds over each step, and over each query that is asked, where the state before it is lawful.
+/// The headline holds over each step, and over each query that is asked, where the state before it is well formed and lawful.
 #[tactic(auto, using(crate::proofs::HeadlineLemmas::steps_keep_headline))]
 pub fn steps_keep_headline()
     ensures { InSteps (λ old reply new. IsWellFormed old → IsLawful old → HeadlineHolds old new) }

@@ -1,3 +1,3 @@
 pub mod Standings
 pub mod Kinds
-pub mod Numbers
+pub mod inside

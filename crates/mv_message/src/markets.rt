@@ -9,9 +9,15 @@ use std::alloc::{AllocError, Global};
 use std::marker::Model;
 
 /// Markets in the order in which a message names them. One may stand twice.
-#[derive(Debug, Drop)]
+#[derive(Debug)]
 pub struct Markets {
     markets: Vec<Market>,
+}
+
+impl Drop for Markets {
+    fn drop(self) {
+        let Self { markets: _ } = self;
+    }
 }
 
 impl Model for Markets {

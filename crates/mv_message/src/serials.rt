@@ -11,9 +11,15 @@ use std::mem::size_of;
 use std::slice;
 
 /// Serial numbers in the order in which a message names them. One may stand twice.
-#[derive(Debug, Drop)]
+#[derive(Debug)]
 pub struct Serials {
     numbers: Numbers,
+}
+
+impl Drop for Serials {
+    fn drop(self) {
+        let Self { numbers: _ } = self;
+    }
 }
 
 /// How serial numbers are kept: one alone takes no place of its own.
@@ -27,7 +33,7 @@ enum Numbers {
 
 impl Model for Serials {
     ghost use Rattle.std.specs.Prelude.{List, ℕ};
-    ghost use Rattle.mv_message.specs.Numbers.{listed};
+    ghost use Rattle.mv_message.specs.inside.Numbers.{listed};
 
     ghost Value = { List (List ℕ) };
 

@@ -8,9 +8,16 @@ use std::alloc::{AllocError, Global};
 use std::marker::Model;
 
 /// A text, which clauses see as its bytes.
-#[derive(Debug, Drop)]
+#[derive(Debug)]
 pub struct Text {
     text: String,
+}
+
+// Written here, as are those of lists, so that the crates above prove nothing of how it is dropped.
+impl Drop for Text {
+    fn drop(self) {
+        let Self { text: _ } = self;
+    }
 }
 
 impl Model for Text {

@@ -1,5 +1,6 @@
 -- The names of the library, of the definitions, and of the crates below that the proofs cite, passed on from one place. Declares nothing.
-pub use Rattle.mv_pack.specs.Code.{IsCode, IsFilledUp, filled_up, first_wrong, is_code_character, is_filled, is_zero, most_code_bytes, read_code, text_before}
+pub use Rattle.mv_pack.specs.Code.{IsCode, first_wrong, is_code_character, most_code_bytes, read_code}
+pub use Rattle.mv_pack.specs.inside.Code.{IsFilledUp, filled_up, is_filled, is_zero, text_before}
 pub use Rattle.mv_pack.specs.Gtin.{IsGtin, check_sum, is_digit, padded, read_gtin}
 pub use Rattle.std.proofs.lemmas.Bool.{and_parts}
 pub use Rattle.std.proofs.lemmas.Bool.Decides.{nat_tests}

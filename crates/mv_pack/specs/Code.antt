@@ -1,6 +1,6 @@
 -- Serial numbers, batch numbers and national numbers, as texts, by the GS1 General Specifications.
-use Rattle.std.specs.Prelude.{◌≡◌, ℕ, ◌+◌, ◌-◌, ◌++◌, replicate, ◌≤◌, ◌==◌, ◌&&◌, ◌||◌, not, Bool, List, length, nat_le, nat_lt, if◌then◌else◌, IsTrue, Option, Some, None, Result, Ok, Err}
-use Rattle.mv_pack.specs.Words.{Character, Empty, PackFault, TooLong, before_first, list_all, position_from}
+use Rattle.std.specs.Prelude.{ℕ, ◌+◌, ◌-◌, ◌≤◌, ◌==◌, ◌&&◌, ◌||◌, not, Bool, List, length, nat_le, nat_lt, if◌then◌else◌, IsTrue, Option, Some, None, Result, Ok, Err}
+use Rattle.mv_pack.specs.Words.{Character, Empty, PackFault, TooLong, list_all, position_from}
 use Rattle.mv_pack.specs.Gtin.{is_digit}
 use Rattle.mv_pack.specs.Market.{is_capital}
 
@@ -25,26 +25,6 @@ most_code_bytes = 20
 -- 1 to 20 characters of codes
 abbrev pub IsCode : List ℕ → Type 0
 IsCode text = (1 ≤ length text) × (length text ≤ most_code_bytes) × IsTrue (list_all is_code_character text)
-
--- a text with zeros behind it, 20 bytes in all
-abbrev pub filled_up : List ℕ → List ℕ
-filled_up text = text ++ replicate (most_code_bytes - length text) 0
-
--- a byte stands for no character
-abbrev pub is_zero : ℕ → Bool
-is_zero byte = byte == 0
-
--- a byte stands for a character
-abbrev pub is_filled : ℕ → Bool
-is_filled byte = not (is_zero byte)
-
--- what stands before the first zero
-abbrev pub text_before : List ℕ → List ℕ
-text_before bytes = before_first is_zero bytes
-
--- a code with zeros behind it
-abbrev pub IsFilledUp : List ℕ → Type 0
-IsFilledUp bytes = IsCode (text_before bytes) × (bytes ≡ filled_up (text_before bytes))
 
 -- the place of the first byte that is no character of codes, counted from zero
 abbrev pub first_wrong : List ℕ → Option ℕ

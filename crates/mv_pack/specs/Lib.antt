@@ -7,3 +7,4 @@ pub mod Moment
 pub mod Fault
 pub mod Keys
 pub mod Laws
+pub mod inside

@@ -7,7 +7,8 @@ use Rattle.std.specs.List.{All}
 use Rattle.std.specs.declared.alloc.Global.{Global}
 use Rattle.std.specs.declared.vec.Vec.{Vec}
 use Rattle.std.specs.Vec.{with_item}
-use Rattle.mv_pairs.specs.Pairs.{cell, put, rows_of, IsSquare}
+use Rattle.mv_pairs.specs.Pairs.{cell, put, IsSquare}
+use Rattle.mv_pairs.specs.inside.Pairs.{rows_of}
 
 -- what holds at each place, and of the new value at its own, holds at each place after the write
 pub put-each : {A : Type 0} (P : ℕ → A → Type 0) (xs : List A) (i : ℕ) (v d : A) → P i v → ((j : ℕ) → P j (get_or xs j d)) → (j : ℕ) → P j (get_or (set xs i v) j d)

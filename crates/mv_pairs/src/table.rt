@@ -3,7 +3,8 @@
 ghost use Rattle.std.specs.Prelude.{◌≡◌, ◌<◌, length, IfOk, Ok};
 ghost use Rattle.std.specs.List.{All};
 ghost use Rattle.std.specs.Borrow.{sem};
-ghost use Rattle.mv_pairs.specs.Pairs.{cell, put, rows_of, IsSquare};
+ghost use Rattle.mv_pairs.specs.Pairs.{cell, put, IsSquare};
+ghost use Rattle.mv_pairs.specs.inside.Pairs.{rows_of};
 
 use std::alloc::{AllocError, Global};
 use std::marker::Model;
@@ -17,7 +18,8 @@ pub struct PairTable<T> {
 
 impl<T> Model for PairTable<T> {
     ghost use Rattle.std.specs.Prelude.{List, length};
-    ghost use Rattle.mv_pairs.specs.Pairs.{rows_of, IsSquare};
+    ghost use Rattle.mv_pairs.specs.Pairs.{IsSquare};
+    ghost use Rattle.mv_pairs.specs.inside.Pairs.{rows_of};
 
     ghost Value = { List (List T) };
 

@@ -1,4 +1,4 @@
 pub mod Words
 pub mod Site
 pub mod Calls
-pub mod Kept
+pub mod inside

@@ -48,7 +48,7 @@ impl Drop for Site {
 impl Model for Site {
     ghost use Rattle.std.specs.Prelude.{length};
     ghost use Rattle.mv_party.specs.Site.{SiteState};
-    ghost use Rattle.mv_party.specs.Kept.{site_of, IsSite};
+    ghost use Rattle.mv_party.specs.inside.Kept.{site_of, IsSite};
 
     ghost Value = { SiteState };
 

@@ -7,7 +7,8 @@ use Rattle.mv_engine.specs.declared.fault.ServeFault.TheVariants.{Write}
 use Rattle.mv_engine.specs.Replies.{ReplyRule, AreReplies}
 use Rattle.mv_engine.specs.Served.{Served, Ended}
 use Rattle.mv_engine.specs.Lines.{Line}
-use Rattle.mv_plan.specs.Planning.{Planned, IsPlanned, planned_by, plan_line}
+use Rattle.mv_plan.specs.Planning.{Planned, plan_line}
+use Rattle.mv_plan.specs.inside.Planning.{IsPlanned, planned_by}
 use Rattle.mv_plan.specs.Drafts.{Parts}
 use Rattle.mv_plan.specs.Reading.{IsRead, Unread}
 

@@ -1,3 +1,4 @@
 pub mod Drafts
 pub mod Planning
 pub mod Reading
+pub mod inside

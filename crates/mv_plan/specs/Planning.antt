@@ -1,5 +1,5 @@
 -- What lines plan: a plan, once a line has opened it, or the refusal of the first line that is refused.
-use Rattle.std.specs.Prelude.{◌≡◌, ℕ, List, length, nat_lt, codes, string_bytes, if◌then◌else◌, Option, Some, None, Result, Ok, Err}
+use Rattle.std.specs.Prelude.{ℕ, List, length, nat_lt, codes, string_bytes, if◌then◌else◌, Option, Some, None, Result, Ok, Err}
 use Rattle.serde_json.specs.Data.{Data}
 use Rattle.serde_json.specs.Written.{compact_text}
 use Rattle.mv_message.specs.declared.message.Message.TheVariants.{Query}
@@ -16,7 +16,6 @@ use Rattle.mv_plan.specs.declared.planned.Planned.TheVariants as held
 use Rattle.mv_format.specs.declared.request.Request.{Request}
 use Rattle.mv_format.specs.declared.request.Request.TheVariants as requests
 use Rattle.mv_plan.specs.Drafts.{Parts, new_parts, with_message}
-use Rattle.mv_engine.specs.Lines.{Line}
 use Rattle.mv_format.specs.Openings.{◌and_then◌, map_err, code_of}
 use Rattle.mv_format.specs.ReplyLines.{refused, line_fault_value, refusal_value}
 use Rattle.mv_format.specs.Requests.{read_line}
@@ -30,11 +29,6 @@ abbrev pub planned_of : HeldPlan → Planned
 planned_of held.Nothing = Ok None
 planned_of (held.Plan plan) = Ok (Some plan)
 planned_of (held.Refused text) = Err (string_bytes text)
-
--- what is planned, by the text of the first refusal, if there is one, and the plan, if one is open
-abbrev pub planned_by : Option (List ℕ) → Option Parts → Planned
-planned_by None plan = Ok plan
-planned_by (Some text) plan = Err text
 
 -- a line is refused by this value
 abbrev pub refuses : Data → Planned
@@ -68,7 +62,3 @@ plan_request (Some plan) (requests.Step step) = plan_step plan step
 abbrev pub plan_line : Planned → List ℕ → Planned
 plan_line planned line =
     planned and_then λ plan. map_err (λ fault. compact_text (line_fault_value fault)) (read_line line) and_then plan_request plan
-
--- the plan after the line is this; nothing is asked of a reply
-abbrev pub IsPlanned : Planned → Line → Option (List ℕ) → Planned → Type 0
-IsPlanned before line text after = after ≡ plan_line before line.bytes

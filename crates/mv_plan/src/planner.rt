@@ -25,7 +25,8 @@ pub(crate) struct Planner {
 
 impl Model for Planner {
     ghost use Rattle.std.specs.Prelude.{option_map, string_bytes};
-    ghost use Rattle.mv_plan.specs.Planning.{Planned, planned_by};
+    ghost use Rattle.mv_plan.specs.Planning.{Planned};
+    ghost use Rattle.mv_plan.specs.inside.Planning.{planned_by};
 
     ghost Value = { Planned };
 
@@ -33,7 +34,7 @@ impl Model for Planner {
 }
 
 impl Answering for Planner {
-    ghost use Rattle.mv_plan.specs.Planning.{IsPlanned};
+    ghost use Rattle.mv_plan.specs.inside.Planning.{IsPlanned};
 
     ghost replies = { IsPlanned };
 

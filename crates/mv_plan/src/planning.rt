@@ -5,7 +5,8 @@ ghost use Rattle.serde_json.specs.Written.{compact_text};
 ghost use Rattle.mv_format.specs.Openings.{map_err, code_of};
 ghost use Rattle.mv_format.specs.ReplyLines.{refused, refusal_value};
 ghost use Rattle.mv_hub.specs.Parties.{parties_of};
-ghost use Rattle.mv_plan.specs.Planning.{planned_by, begins, plan_step, plan_request, plan_line};
+ghost use Rattle.mv_plan.specs.Planning.{begins, plan_step, plan_request, plan_line};
+ghost use Rattle.mv_plan.specs.inside.Planning.{planned_by};
 
 use crate::draft::Draft;
 use json::Scratch;

@@ -6,14 +6,17 @@ pub use Rattle.mv_pack.specs.Expiry.{CivilDate}
 pub use Rattle.mv_pack.specs.Keys.{batch_key, is_same_batch, is_same_pack, pack_key}
 pub use Rattle.mv_pack.specs.declared.key.BatchKey.{BatchKey}
 pub use Rattle.mv_pack.specs.declared.key.PackKey.{PackKey}
-pub use Rattle.mv_repository.specs.Agreement.{AgreeOn, AreAt, HasDistinctStamps, HaveSameAbout, HaveSameEntries, HaveSameHistory, Sent, SentHistory, SentStatus, about, as_sent, batch_in, bears_on, history_at, history_of, is_batch_recalled, sent_in, sent_of, sent_status, unplaced}
+pub use Rattle.mv_repository.specs.Agreement.{AgreeOn, HasDistinctStamps, HaveSameAbout, HaveSameEntries, HaveSameHistory, Sent, SentHistory, SentStatus, about, as_sent, batch_in, bears_on, history_of, is_batch_recalled, sent_in, sent_of, sent_status, unplaced}
+pub use Rattle.mv_repository.specs.inside.Agreement.{AreAt, history_at}
 pub use Rattle.mv_repository.specs.Repository.{each_once, mastered_in, recalled_in, serials_in, serials_of, uploaded_in, uploaded_packs, items_from, product_of, product_under}
 pub use Rattle.mv_repository.specs.Pack.{effect_after, effect_of, entries_before, lasting_effect, ChangeNamesStatus, KnownPack, NamesStatus, batch_standing, change_effect, has_pack, held_of, is_active, is_done, is_recall_of, is_recalled_by, is_withdrawal_of, is_withdrawn, is_withdrawn_by, known_pack, known_pack_from, new_pack, pack_after_item, pack_state}
-pub use Rattle.mv_repository.specs.Tables.{AreMastersOf, AreTablesOf, is_master, IsInquiriesOf, has_reply, inquiry_after, inquiry_of, no_inquiry, query_of}
+pub use Rattle.mv_repository.specs.inside.Tables.{AreMastersOf, AreTablesOf, is_master, IsInquiriesOf, has_reply, inquiry_after, inquiry_of, no_inquiry, query_of}
 pub use Rattle.mv_repository.specs.Order.{Ascends, IsOrderOf, Placed, ordered, passes, put_in, stands_before}
-pub use Rattle.mv_repository.specs.Shelf.{IsAgain, IsPackOf, IsRefreshed, IsShelfOf, IsUploadOf, ShelfTable, has_number, is_counted, is_in, is_listed, kept_by, kept_in, lists, may_stop, no_shelf, nothing_kept, shelf_of, slots_counted}
-pub use Rattle.mv_repository.specs.Track.{batch_at, change_in, effect_from, effect_in, effect_on, entry_in, held_at, known_at, made_batch, next_by, next_in, next_place, pack_made_by, standing_in, start_in, AreBlocks, IsCovered, IsCut, IsFront, IsKept, IsSummary, IsTrack, Kept, Life, bare, first_upload, is_status_of, is_upload_of, life_of, pack_changed, pack_grown, pack_step, start_of, statuses_of, track_of, without}
-pub use Rattle.mv_repository.specs.Stops.{AreFirstsOf, AreFound, AreStopsOf, FirstStops, HasFirst, comes_first, earlier_place, entry_at, entry_of, first_place, first_stops, is_before, is_stop, message_in, no_entry, place_of, standing_at, stopped_product, stops_in, withdrawn_in}
+pub use Rattle.mv_repository.specs.inside.Shelf.{IsAgain, IsPackOf, IsRefreshed, IsShelfOf, IsUploadOf, ShelfTable, has_number, is_counted, is_in, is_listed, kept_by, kept_in, lists, may_stop, no_shelf, nothing_kept, shelf_of, slots_counted}
+pub use Rattle.mv_repository.specs.Track.{pack_made_by, first_upload, is_status_of, is_upload_of, pack_changed, pack_grown, pack_step, statuses_of}
+pub use Rattle.mv_repository.specs.inside.Track.{batch_at, change_in, effect_from, effect_in, effect_on, entry_in, held_at, known_at, made_batch, next_by, next_in, next_place, standing_in, start_in, AreBlocks, IsCovered, IsCut, IsFront, IsKept, IsSummary, IsTrack, Kept, Life, bare, life_of, start_of, track_of, without}
+pub use Rattle.mv_repository.specs.Stops.{FirstStops, entry_at, entry_of, first_stops, is_before, message_in, no_entry, standing_at, withdrawn_in}
+pub use Rattle.mv_repository.specs.inside.Stops.{AreFirstsOf, AreFound, AreStopsOf, HasFirst, comes_first, earlier_place, first_place, is_stop, place_of, stopped_product, stops_in}
 pub use Rattle.mv_repository.specs.Verdict.{asked_parties, finding_in, found_active, found_explained, has_answered, joint_verdict, query_reach, verdict_when}
 pub use Rattle.mv_repository.specs.Words.{Active, BatchStanding, Block, Carried, Counted, Decided, Effect, Found, HashSet, Held, Item, LogEntry, Made, Master, Message, Own, PARTIES_LIMIT, PartySet, Product, Recall, Receipt, Slot, Standing, Status, Stop, Stops, Upload, Withdraw, bytes_eq, insert_key, keys_of, lookup, option_and_then, option_map, option_map_or, option_or, slice_get, unwrap_or}
 pub use Rattle.mv_repository.specs.declared.blocks.Cut.{Cut}

@@ -1,11 +1,10 @@
 -- What of a log bears on one pack, and what decides the pack; and what two logs agree on that have the same of it.
 use Rattle.std.specs.Prelude.{◌≡◌, ◌↔◌}
-use Rattle.mv_repository.specs.Words.{ℕ, nat_eq, List, Bool, false, filter, Option, Some, None, bytes_eq, filter_map, Contains, option_map, option_map_or, PackKey, Message, Upload, Status, Withdraw, Item, Receipt, Carried, LogEntry, IsDistinct, Recall, is_same_pack, is_same_batch, batch_key, map, IfSome, slice_get, AllByRecursion, option_and_then, BatchStanding}
-use Rattle.mv_repository.specs.declared.history.Places.{Places}
+use Rattle.mv_repository.specs.Words.{ℕ, nat_eq, List, Bool, false, filter, Option, Some, None, bytes_eq, filter_map, Contains, option_map, option_map_or, PackKey, Message, Upload, Status, Withdraw, Item, Receipt, Carried, LogEntry, IsDistinct, Recall, is_same_pack, is_same_batch, batch_key, map, option_and_then, BatchStanding}
 use Rattle.mv_repository.specs.Order.{Placed, ordered}
 use Rattle.mv_repository.specs.Pack.{KnownChange, KnownPack, has_pack, known_pack, pack_state, is_recalled, is_withdrawn}
 use Rattle.mv_repository.specs.Verdict.{local_verdict}
-use Rattle.mv_repository.specs.Stops.{first_stops, is_before, entry_at}
+use Rattle.mv_repository.specs.Stops.{first_stops, is_before}
 use Rattle.mv_repository.specs.Track.{first_upload, statuses_of}
 
 -- a message that was carried, with its sender and its stamp
@@ -116,23 +115,3 @@ as_sent history = record {
 -- two logs have the same history of a pack: the same was sent that decides it
 abbrev pub HaveSameHistory : PackKey → List LogEntry → List LogEntry → Type 0
 HaveSameHistory pack one other = as_sent (history_of pack one) ≡ as_sent (history_of pack other)
-
--- an entry is the one at its place in a log
-abbrev pub IsAt : List LogEntry → Placed → Type 0
-IsAt log placed = slice_get log placed.place ≡ Some placed.entry
-
--- so is each of a history
-pub record AreAt (log : List LogEntry) (history : PackHistory) : Type 0 where
-  pub upload : IfSome history.upload (IsAt log)
-  pub statuses : AllByRecursion (IsAt log) history.statuses
-  pub recall : IfSome history.recall (IsAt log)
-  pub withdrawal : IfSome history.withdrawal (IsAt log)
-
--- a history by its places in a log
-abbrev pub history_at : Places → PackHistory
-history_at places = record {
-  upload = option_map (entry_at places.log.now) places.upload;
-  statuses = map (entry_at places.log.now) places.statuses.now;
-  recall = option_map (entry_at places.log.now) places.recall;
-  withdrawal = option_map (entry_at places.log.now) places.withdrawal;
-}

@@ -5,7 +5,6 @@ pub mod Verdict
 pub mod Repository
 pub mod Stops
 pub mod Track
-pub mod Shelf
-pub mod Tables
 pub mod Agreement
 pub mod Clauses
+pub mod inside

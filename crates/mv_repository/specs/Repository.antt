@@ -57,7 +57,7 @@ serials_in gtin (Carried k stamp (Upload named batch expiry national serials)) =
 serials_in gtin (Carried k stamp (Status key to user at)) = if bytes_eq key.gtin gtin then key.serial ∷ [] else []
 serials_in gtin _ = []
 
--- the serial numbers of a product that a log names, each once, in the order in which each came first
+-- the serial numbers of a product that uploads and statuses of a log name, each once, in the order in which each came first
 abbrev pub serials_of : List LogEntry → List ℕ → List (List ℕ)
 serials_of log gtin = each_once bytes_eq (flat_map (λ entry. serials_in gtin entry.item) log)
 

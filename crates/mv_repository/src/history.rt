@@ -85,7 +85,8 @@ pub struct History<'a> {
 }
 
 impl<'a> Model for History<'a> {
-    ghost use Rattle.mv_repository.specs.Agreement.{PackHistory, AreAt, history_at};
+    ghost use Rattle.mv_repository.specs.Agreement.{PackHistory};
+    ghost use Rattle.mv_repository.specs.inside.Agreement.{AreAt, history_at};
 
     ghost Value = { PackHistory };
 
@@ -150,7 +151,7 @@ pub struct Statuses<'a> {
 
 impl<'a> Model for Statuses<'a> {
     ghost use Rattle.mv_repository.specs.Clauses.{AllByRecursion, AnEntry, List, entry_at, entry_of, map};
-    ghost use Rattle.mv_repository.specs.Agreement.{IsAt};
+    ghost use Rattle.mv_repository.specs.inside.Agreement.{IsAt};
 
     ghost Value = { List AnEntry };
 

@@ -25,7 +25,7 @@ pub(crate) struct Listing {
 }
 
 impl Model for Listing {
-    ghost use Rattle.mv_repository.specs.Shelf.{ListingTable};
+    ghost use Rattle.mv_repository.specs.inside.Shelf.{ListingTable};
     ghost use Rattle.std.specs.Prelude.{map};
 
     ghost Value = { ListingTable };

@@ -32,7 +32,7 @@ pub struct Counts {
     pub recalled: usize,
 }
 
-/// A national repository, seen as its party and its log. No reader searches the log: each goes by tables.
+/// A national repository, seen as its party and its log. No reader but `from_sender` walks the log: the others go by tables.
 pub struct Repository {
     /// What memory is got from.
     alloc: Global,
@@ -61,7 +61,7 @@ impl Drop for Repository {
 
 impl Model for Repository {
     ghost use Rattle.mv_repository.specs.Repository.{RepositoryState};
-    ghost use Rattle.mv_repository.specs.Tables.{AreTablesOf, IsInquiriesOf};
+    ghost use Rattle.mv_repository.specs.inside.Tables.{AreTablesOf, IsInquiriesOf};
 
     ghost Value = { RepositoryState };
 

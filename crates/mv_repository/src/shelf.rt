@@ -74,7 +74,7 @@ pub(crate) struct Shelf {
 }
 
 impl Model for Shelf {
-    ghost use Rattle.mv_repository.specs.Shelf.{ShelfTable, IsShelf};
+    ghost use Rattle.mv_repository.specs.inside.Shelf.{ShelfTable, IsShelf};
     ghost use Rattle.indexmap.specs.IndexMap.{spare};
 
     ghost Value = { ShelfTable };

@@ -40,7 +40,7 @@ pub(crate) struct Track {
 }
 
 impl Model for Track {
-    ghost use Rattle.mv_repository.specs.Track.{Kept};
+    ghost use Rattle.mv_repository.specs.inside.Track.{Kept};
 
     ghost Value = { Kept };
 

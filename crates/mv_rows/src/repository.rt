@@ -41,7 +41,7 @@ fn tells_apart(repository: &mut Repository, alloc: Global) -> bool {
         && repository.from_sender(2).next().is_none()
 }
 
-/// Whether a repository where nothing has happened does. It is dropped here and not in what is called, since that is dear to prove.
+/// Whether a repository where nothing has happened does.
 fn are_told_apart(alloc: Global) -> bool {
     let mut repository = Repository::new(alloc, 2);
     tells_apart(&mut repository, alloc)

@@ -26,9 +26,9 @@ taken_whole None before after old new none served = tt
 taken_whole (Some bytes) before after old new none served = rw none at (silent before (pieces bytes) after served.0 served.2)
 
 -- it stopped at a place, and nothing was written
-stopped_in_silence : (fault : ServeFault) (before after : Open) (bytes out : List ℕ) → StoppedAt IsPassed fault [] 0 before bytes after out
-    → StoppedAt IsPassed fault [] 0 before bytes after []
-stopped_in_silence fault before after bytes out stopped = search (rules, silent)
+stopped_in_silence : (fault : ServeFault) (before after : Open) (bytes out : List ℕ) (ps : List (List ℕ))
+    → StoppedAt IsPassed fault [] 0 before bytes ps after out → StoppedAt IsPassed fault [] 0 before bytes ps after []
+stopped_in_silence fault before after bytes out ps stopped = search (rules, silent)
 
 -- the answering of lines ended, and nothing was written
 ended_in_silence : (fault : ServeFault) (before : Open) (bytes : List ℕ) (old new contents : Option (List ℕ)) → fault ≢ Write
@@ -37,7 +37,7 @@ ended_in_silence Read before bytes old new contents other at_end =
     (at_end.0, (at_end.1.0, ([], Appends-nil contents, silent before _ at_end.0 at_end.1.1.0 at_end.1.1.2)))
 ended_in_silence Write before bytes old new contents other at_end = absurd (other refl)
 ended_in_silence fault before bytes old new contents other at_end =
-    (at_end.0, ([], Appends-nil contents, stopped_in_silence fault before at_end.0 bytes at_end.1.0 at_end.1.2))
+    (at_end.0, ([], Appends-nil contents, stopped_in_silence fault before at_end.0 bytes at_end.1.0 (pieces bytes) at_end.1.2))
 
 -- why the answering of lines ended is why nothing is shown
 pub not_shown : (fault : ServeFault) (before : Open) (input rest old new contents : Option (List ℕ)) → fault ≢ Write → before ≡ None
@@ -63,6 +63,8 @@ refused_at_once input rest contents bytes took = inl (
         bad = bytes;
         cut = refl;
         why = tt;
+        unanswered = pieces bytes;
+        parted = refl;
         behind = None;
         answered = record { kept = record { few = omega (arith); short = λ k d below. omega (arith, below) }; replied = ([], refl, refl) };
         left = inl refl;

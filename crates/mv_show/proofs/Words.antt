@@ -4,7 +4,7 @@ pub use Rattle.mv_machine.specs.State.{State, wire_of}
 pub use Rattle.mv_pack.specs.Keys.{is_same_pack, pack_key}
 pub use Rattle.mv_pack.specs.declared.key.PackKey.{PackKey}
 pub use Rattle.mv_repository.specs.declared.entry.LogEntry.{LogEntry}
-pub use Rattle.mv_show.specs.Blocks.{Passes}
+pub use Rattle.mv_show.specs.inside.Blocks.{Passes}
 pub use Rattle.mv_show.specs.Shown.{Row, lines_text, link_rows, party_rows, shown_rows, subject_rows}
 pub use Rattle.mv_show.specs.Subjects.{is_same_subject, named_of, subjects_of}
 pub use Rattle.mv_show.specs.declared.subject.Subject.TheVariants.{Pack, Party}

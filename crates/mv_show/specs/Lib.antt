@@ -1,5 +1,5 @@
 pub mod Words
 pub mod Subjects
 pub mod Shown
-pub mod Blocks
 pub mod Showing
+pub mod inside

@@ -5,7 +5,7 @@ ghost use Rattle.std.specs.Option.{option_copied};
 ghost use Rattle.std.specs.Io.KnownBytes.{Appends};
 ghost use Rattle.mv_machine.specs.State.{is_party};
 ghost use Rattle.mv_engine.specs.Output.{WrotePart};
-ghost use Rattle.mv_show.specs.Blocks.{Passes, EndsWriting};
+ghost use Rattle.mv_show.specs.inside.Blocks.{Passes, EndsWriting};
 ghost use Rattle.mv_show.specs.Shown.{party_rows, shown_rows, lines_text};
 
 use crate::lines::Lines;

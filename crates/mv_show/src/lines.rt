@@ -6,7 +6,7 @@ ghost use Rattle.serde_json.specs.Written.{compact_text};
 ghost use Rattle.mv_engine.specs.Output.{WrotePart};
 ghost use Rattle.mv_engine.specs.Replies.{text_lines};
 ghost use Rattle.mv_format.specs.Writing.{members_of};
-ghost use Rattle.mv_show.specs.Blocks.{Passes};
+ghost use Rattle.mv_show.specs.inside.Blocks.{Passes};
 
 use mv_lines::{Member, ServeFault, append_object, put_out};
 use std::alloc::{AllocError, Global};

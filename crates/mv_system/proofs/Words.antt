@@ -25,7 +25,7 @@ pub use Rattle.mv_party.specs.Calls.{apply_fault, ask_fault, taken_by, with_take
 pub use Rattle.mv_party.specs.Site.{SiteState, answers_in, count_from, new_site, with_submission}
 pub use Rattle.mv_party.specs.declared.fault.SiteFault.TheVariants.{Memory as SiteMemory}
 pub use Rattle.mv_party.specs.declared.fault.SiteFault.{SiteFault}
-pub use Rattle.mv_system.specs.World.{AreWiresOf, IsSystem, IsWireOf, WireState, new_wire, numbers_of, numbers_on, state_of, wire_at}
+pub use Rattle.mv_system.specs.inside.World.{AreWiresOf, IsSystem, IsWireOf, WireState, new_wire, numbers_of, numbers_on, state_of, wire_at}
 pub use Rattle.std.proofs.Common.{Bool, Err, IsTrue, List, None, Option, Some, [], ap, arith, drop, false, get_or, length, length-append, ltb-true, map, option_map, refl, rules, set, slice_get, sym, take, true, unwrap_or, ℕ, ◌++◌, ◌+◌, ◌-◌, ◌<◌, ◌∙◌, ◌∷◌, ◌≡◌, ◌≤◌}
 pub use Rattle.std.proofs.lemmas.Bool.{and_parts}
 pub use Rattle.std.proofs.lemmas.List.{get_or_read, length-map, map-append, set-get_or, take_more}

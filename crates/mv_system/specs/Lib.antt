@@ -1,4 +1,3 @@
-pub mod World
 pub use Rattle.mv_machine.specs.Limits
 pub use Rattle.mv_machine.specs.Replies
 pub use Rattle.mv_machine.specs.State
@@ -7,3 +6,4 @@ pub use Rattle.mv_machine.specs.Runs
 pub use Rattle.mv_machine.specs.Lawful
 pub use Rattle.mv_machine.specs.Closing
 pub use Rattle.mv_machine.specs.Headline
+pub mod inside

@@ -7,7 +7,7 @@ ghost use Rattle.mv_machine.specs.Replies.{changes_nothing};
 ghost use Rattle.mv_machine.specs.Runs.{Meets, Allows, Runs};
 ghost use Rattle.mv_machine.specs.Lawful.{IsLawful, IsWellFormed};
 ghost use Rattle.mv_machine.specs.Headline.{HeadlineHolds};
-ghost use Rattle.mv_system.specs.World.{new_wire};
+ghost use Rattle.mv_system.specs.inside.World.{new_wire};
 
 use crate::opening::new_sites;
 use crate::world::steps::reply_of;
@@ -55,7 +55,7 @@ impl Drop for World {
 
 impl Model for World {
     ghost use Rattle.mv_machine.specs.State.{State};
-    ghost use Rattle.mv_system.specs.World.{state_of, IsSystem};
+    ghost use Rattle.mv_system.specs.inside.World.{state_of, IsSystem};
 
     ghost Value = { State };
 
@@ -144,6 +144,8 @@ impl World {
     /// After each step the headline holds, whatever the system was before: see [`World::run`].
     pub fn step(&mut self, step: &Step) -> Reply
         ensures allowed { Allows self.old step.now result self.new }
+        // The limits by which its parts refuse are those of the system.
+        ensures well_formed { IsWellFormed self.old }
         ensures unchanged { IsTrue (changes_nothing result) → self.new ≡ self.old }
         ensures headline { HeadlineHolds self.old self.new }
     {
@@ -161,6 +163,7 @@ impl World {
     /// is full; S4, it has submitted as many messages as it may; S14, memory was refused.
     pub fn ask(&mut self, party: Party, key: &PackKey) -> Reply
         ensures asked { Meets self.old (ask self.old party key.now) result self.new }
+        ensures well_formed { IsWellFormed self.old }
         ensures unchanged { IsTrue (changes_nothing result) → self.new ≡ self.old }
         ensures headline { HeadlineHolds self.old self.new }
     {
@@ -181,6 +184,7 @@ impl World {
     /// on it.
     pub fn run(&mut self, steps: &[Step]) -> Result<Vec<Reply>, AllocError>
         ensures run { IfOk result (λ replies. Runs self.old steps.now replies.items self.new) }
+        ensures well_formed { IsWellFormed self.old }
         ensures headline { HeadlineHolds self.old self.new }
         ensures err { OnErr result (self.new ≡ self.old) }
     {

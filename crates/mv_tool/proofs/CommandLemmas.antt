@@ -14,7 +14,7 @@ use Rattle.mv_engine.specs.declared.fault.ServeFault.TheVariants.{Memory}
 use Rattle.mv_tool.specs.declared.status.Status.{Status}
 use Rattle.mv_tool.specs.declared.status.Status.TheVariants.{Done, Failed, Refused}
 use Rattle.mv_tool.specs.Commands.{Ran, RanAs, RanLines}
-use Rattle.mv_tool.specs.Telling.{ToldCodes, ToldStrict}
+use Rattle.mv_tool.specs.inside.Telling.{ToldCodes, ToldStrict}
 use Rattle.mv_checks.specs.declared.strict.Untaken.{Untaken}
 use Rattle.mv_lines.specs.Canon.{IsCanon}
 use Rattle.mv_lines.specs.Sessions.{Open}

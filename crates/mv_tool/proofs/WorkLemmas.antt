@@ -13,7 +13,8 @@ use Rattle.mv_report.specs.Report.{report_text}
 use Rattle.mv_plan.specs.Planning.{Planned}
 use Rattle.mv_plan.specs.Reading.{IsRead}
 use Rattle.mv_engine.specs.Output.{WrotePart}
-use Rattle.mv_tool.specs.Working.{end_line, parts_of, report_of, output_of, IsOutput, Worked, Failed}
+use Rattle.mv_tool.specs.Working.{end_line, parts_of, IsOutput, Worked, Failed}
+use Rattle.mv_tool.specs.inside.Working.{report_of, output_of}
 use Rattle.std.specs.Io.KnownBytes.{Appends, Keeps}
 
 -- a plan of parts that can be run can be run

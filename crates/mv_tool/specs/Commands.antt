@@ -1,6 +1,6 @@
 -- What comes of the words that the command line takes.
 use Rattle.std.specs.Prelude.{◌≡◌, ◌⊎◌, ℕ, List, Bool, true, false, IsTrue, Option, None, IfSome, is_none}
-use Rattle.std.specs.Io.KnownBytes.{Appends, Consumes, Keeps}
+use Rattle.std.specs.Io.KnownBytes.{Appends, Keeps}
 use Rattle.mv_explain.specs.Explained.{first_unknown, lines_of}
 use Rattle.mv_checks.specs.Checks.{IsChecked}
 use Rattle.mv_checks.specs.Strict.{IsStrictReply}
@@ -9,7 +9,7 @@ use Rattle.mv_tool.specs.declared.status.Status.{Status}
 use Rattle.mv_tool.specs.declared.status.Status.TheVariants.{Done, Failed, Refused}
 use Rattle.mv_lines.specs.Canon.{IsCanon}
 use Rattle.mv_engine.specs.Replies.{ReplyRule}
-use Rattle.mv_engine.specs.Served.{Served, Ended}
+use Rattle.mv_engine.specs.Served.{EndedBy, Served}
 use Rattle.mv_engine.specs.Output.{WrotePart}
 use Rattle.mv_lines.specs.Sessions.{IsReply}
 use Rattle.mv_show.specs.Showing.{Shows, Unshown}
@@ -21,10 +21,6 @@ use Rattle.mv_tool.specs.Working.{Worked, Failed as WorkFailed}
 
 -- the input, the output and standard error, each before a run and behind it
 module _ (input rest old new told_old told_new : Option (List ℕ)) where
-  -- this fault ended a run over lines
-  abbrev pub EndedBy : {S : Type 0} → ReplyRule S → S → ServeFault → Type 0
-  EndedBy rule before fault = (bytes : List ℕ) × Consumes input rest bytes × Ended rule fault before bytes old new
-
   -- What a run came to that answers whether all is well, by its status. Done: it is. Failed: it is not, or a fault ended the run.
   -- Refused: nothing was read and nothing written.
   abbrev pub RanAs : (Bool → Type 0) → (ServeFault → Type 0) → Status → Type 0
@@ -36,12 +32,13 @@ module _ (input rest old new told_old told_new : Option (List ℕ)) where
   -- ended it.
   abbrev pub RanLines : {S : Type 0} → ReplyRule S → S → (S → Bool → Type 0) → Status → Type 0
   RanLines {S = S} rule before Says =
-      RanAs (λ well. (after : S) × Says after well × IfSome input (λ bytes. Served rule before bytes after old new)) (EndedBy rule before)
+      RanAs (λ well. (after : S) × Says after well × IfSome input (λ bytes. Served rule before bytes after old new))
+      (λ fault. EndedBy rule fault before input rest old new)
 
   -- What came of what was asked for, by the status, with what was read, written and told.
   -- `steps`, `trail` and `canon`: all is well where the whole input was answered. `steps --strict`: where each line was taken; those that were
   -- not are told. `show`: where a system was opened. `canon --check`: where each line is a message; only a fault is told. `work`: where the
-  -- plan was finished. `explain`: the words are codes, of which all lines went out, or, by a fault, the first of them.
+  -- plan was finished. `explain`: the words are codes, whose lines went out whole, or, by a fault, some first bytes of them.
   abbrev pub Ran : Task → Status → Type 0
   Ran tasks.Steps = RanLines IsReply None (λ after well. IsTrue well)
   Ran tasks.Trail = RanLines IsEvent None (λ after well. IsTrue well)

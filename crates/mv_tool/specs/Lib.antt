@@ -17,3 +17,4 @@ pub use Rattle.mv_show.specs.Shown
 pub use Rattle.mv_plan.specs.Planning
 pub use Rattle.mv_plan.specs.Reading
 pub use Rattle.mv_report.specs.Report
+pub mod inside

@@ -1,32 +1,8 @@
 -- What standard error is told, where that is one of these lines.
-use Rattle.std.specs.Prelude.{◌≡◌, ℕ, List, [], ◌∷◌, ◌++◌, codes, decimal, Option, Some, None, OnOk, MatchResult, Result}
-use Rattle.std.specs.Io.KnownBytes.{Appends, Keeps}
-use Rattle.mv_explain.specs.Explained.{first_unknown, lines_of}
+use Rattle.std.specs.Prelude.{ℕ, List, [], ◌∷◌, ◌++◌, codes, decimal}
 use Rattle.mv_checks.specs.declared.strict.Untaken.{Untaken}
-use Rattle.mv_engine.specs.declared.fault.ServeFault.{ServeFault}
-use Rattle.mv_engine.specs.Output.{WrotePart}
-use Rattle.mv_tool.specs.declared.status.Status.{Status}
-use Rattle.mv_tool.specs.declared.status.Status.TheVariants.{Done, Failed, Refused}
 
 -- the line on lines that were not taken: how many, and the number of the first
 abbrev pub untaken_line : Untaken → List ℕ
 untaken_line untaken =
     codes "mvhub: lines not taken: " ++ decimal untaken.count ++ codes ", the first: " ++ decimal untaken.first ++ 10 ∷ []
-
--- the line on a word that is no code
-abbrev pub no_code_line : List ℕ → List ℕ
-no_code_line word = codes "mvhub: no such code: " ++ word ++ 10 ∷ []
-
--- What is told of a strict run, by how it ended and the lines that were not taken, and its status. Where there are such lines, they are told,
--- and behind a whole input nothing else.
-abbrev pub ToldStrict : Result (Unit {0}) ServeFault → Option Untaken → Status → Option (List ℕ) → Option (List ℕ) → Type 0
-ToldStrict ended None status old new = MatchResult ended (λ _. (status ≡ Done) × Keeps old new) (λ _. status ≡ Failed)
-ToldStrict ended (Some untaken) status old new = (status ≡ Failed) × OnOk ended (WrotePart (untaken_line untaken) old new)
-
--- What is written of codes, and told, by the status. Done: their lines went out. Failed: a fault came, so perhaps not all of them. Refused: a
--- word is no code, and the first is told.
-abbrev pub ToldCodes : List (List ℕ) → Status → Option (List ℕ) → Option (List ℕ) → Option (List ℕ) → Option (List ℕ) → Type 0
-ToldCodes words Done old new told_old told_new = (first_unknown words ≡ None) × Appends old new (lines_of words)
-ToldCodes words Failed old new told_old told_new = (first_unknown words ≡ None) × WrotePart (lines_of words) old new
-ToldCodes words Refused old new told_old told_new =
-    (word : List ℕ) × (first_unknown words ≡ Some word) × Keeps old new × WrotePart (no_code_line word) told_old told_new

@@ -1,11 +1,9 @@
 -- What `work` writes.
-use Rattle.std.specs.Prelude.{◌≡◌, ◌↔◌, ℕ, List, ◌∷◌, [], ◌++◌, codes, Bool, true, false, IsTrue, if◌then◌else◌, Option, Some, None, Result, Ok, Err, IfSome}
+use Rattle.std.specs.Prelude.{◌≡◌, ◌↔◌, ℕ, List, ◌∷◌, [], ◌++◌, codes, Bool, false, IsTrue, if◌then◌else◌, Option, Some, None, Ok, Err, IfSome}
 use Rattle.std.specs.Io.KnownBytes.{Keeps}
 use Rattle.serde_json.specs.Written.{compact_text}
 use Rattle.mv_machine.specs.State.{State}
 use Rattle.mv_workers.specs.declared.plan.Plan.{Plan}
-use Rattle.mv_workers.specs.declared.plan.WorkFault.{WorkFault}
-use Rattle.mv_workers.specs.declared.plan.WorkFault.TheVariants as faults
 use Rattle.mv_workers.specs.Plans.{KeepsPlan, IsComplete}
 use Rattle.mv_engine.specs.declared.fault.ServeFault.{ServeFault}
 use Rattle.mv_engine.specs.declared.fault.ServeFault.TheVariants.{Write, Memory, Start}
@@ -21,18 +19,6 @@ use Rattle.mv_report.specs.Report.{report_text}
 -- the last line: whether the plan was finished
 abbrev pub end_line : Bool → List ℕ
 end_line finished = if finished then codes "finished\n" else codes "unfinished\n"
-
--- what is written of an outcome, and whether the plan was finished
-abbrev pub report_of : Bool → State → List ℕ × Bool
-report_of finished outcome = (report_text outcome ++ end_line finished, finished)
-
--- The same of what a run came to. The run of a plan that can't be run was not started.
-abbrev pub output_of : Result State WorkFault → Result (List ℕ × Bool) ServeFault
-output_of (Ok outcome) = Ok (report_of true outcome)
-output_of (Err (faults.Unfinished outcome)) = Ok (report_of false outcome)
-output_of (Err (faults.Memory outcome)) = Err Memory
-output_of (Err faults.Start) = Err Start
-output_of (Err faults.Plan) = Err Start
 
 -- the parts of a plan that is run
 abbrev pub parts_of : Plan → Parts

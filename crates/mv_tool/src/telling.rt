@@ -3,7 +3,8 @@
 ghost use Rattle.std.specs.Prelude.{◌≡◌, ℕ, ⊤, List, IfOk, MatchResult, map, string_bytes, if◌then◌else◌};
 ghost use Rattle.std.specs.Io.KnownBytes.{Keeps};
 ghost use Rattle.mv_engine.specs.Output.{WrotePart};
-ghost use Rattle.mv_tool.specs.Telling.{ToldCodes, ToldStrict, no_code_line, untaken_line};
+ghost use Rattle.mv_tool.specs.Telling.{untaken_line};
+ghost use Rattle.mv_tool.specs.inside.Telling.{ToldCodes, ToldStrict, no_code_line};
 
 use crate::Status;
 use mv_checks::{StrictRun, Untaken};

@@ -3,3 +3,4 @@ pub mod Events
 pub mod EventValues
 pub mod Trail
 pub mod Laws
+pub mod inside

@@ -8,7 +8,7 @@ ghost use Rattle.mv_party.specs.Site.{entry_from};
 ghost use Rattle.mv_format.specs.Writing.{members_of};
 ghost use Rattle.mv_trail.specs.Events.{last_of, asked_about, event_of_step, event_of, opened, applied};
 ghost use Rattle.mv_trail.specs.EventValues.{new_packs, old_packs, suspicion, verdict_name};
-ghost use Rattle.mv_trail.specs.Trail.{Tells, Says};
+ghost use Rattle.mv_trail.specs.inside.Trail.{Tells, Says};
 
 use mv_hub::Entry;
 use mv_lines::{Answered, Member, append_object};

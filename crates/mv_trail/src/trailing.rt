@@ -1,9 +1,7 @@
 //! Writes the event of each line of a run.
 
-ghost use Rattle.std.specs.Prelude.{ℕ, List, None, OnOk, IfErr, IfSome};
-ghost use Rattle.std.specs.Io.KnownBytes.{Consumes};
-ghost use Rattle.mv_engine.specs.Served.{Served, Ended};
-ghost use Rattle.mv_lines.specs.Sessions.{Open};
+ghost use Rattle.std.specs.Prelude.{None, OnOk, IfErr};
+ghost use Rattle.mv_engine.specs.Served.{AllServed, EndedBy};
 ghost use Rattle.mv_trail.specs.Trail.{IsEvent};
 
 use crate::event::append_event;
@@ -51,12 +49,10 @@ pub fn trail<R: Read, W: Write>(
     writer: &mut W,
 ) -> Result<(), ServeFault>
     // The input is answered whole: each line is taken as the list machine allows, and its event, where it has one, went out.
-    ensures ok { OnOk result (IfSome (R.remaining reader.old) (λ bytes. (after : Open)
-        × Served IsEvent None bytes after (W.contents writer.old) (W.contents writer.new))) }
+    ensures ok { OnOk result (AllServed IsEvent None (R.remaining reader.old) (W.contents writer.old) (W.contents writer.new)) }
     // The bytes are those that were read. Which events of their lines went out, the fault says.
-    ensures err { IfErr result (λ fault. (bytes : List ℕ)
-        × Consumes (R.remaining reader.old) (R.remaining reader.new) bytes
-        × Ended IsEvent fault None bytes (W.contents writer.old) (W.contents writer.new)) }
+    ensures err { IfErr result (λ fault. EndedBy IsEvent fault None
+        (R.remaining reader.old) (R.remaining reader.new) (W.contents writer.old) (W.contents writer.new)) }
 {
     let mut recorder = Recorder {
         alloc,

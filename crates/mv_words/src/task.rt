@@ -34,7 +34,7 @@ pub enum Task<'a> {
     },
     /// `explain`: to say what codes mean.
     Explain {
-        /// The words behind `explain`, one at least.
+        /// The words behind `explain`.
         codes: Codes<'a>,
     },
 }

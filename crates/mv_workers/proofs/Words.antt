@@ -11,8 +11,8 @@ pub use Rattle.mv_message.specs.declared.message.Message.{Message}
 pub use Rattle.mv_party.specs.Site.{SiteState, answers_in, new_site}
 pub use Rattle.mv_repository.specs.Repository.{items_from}
 pub use Rattle.mv_repository.specs.declared.entry.LogEntry.{LogEntry}
-pub use Rattle.mv_workers.specs.Crews.{AreBegun, Handle, IsBack, IsCrewOf, end_of, work_of}
-pub use Rattle.mv_workers.specs.Desks.{AllUnused, IsFurther, own_of}
+pub use Rattle.mv_workers.specs.inside.Crews.{AreBegun, Handle, IsBack, IsCrewOf, end_of, work_of}
+pub use Rattle.mv_workers.specs.inside.Desks.{AllUnused, IsFurther, own_of}
 pub use Rattle.mv_workers.specs.Plans.{IsCarried}
 pub use Rattle.mv_workers.specs.Work.{is_answer, lists_of, own_among}
 pub use Rattle.std.proofs.Common.{Bool, IsFalse, IsTrue, List, [], ap, append-nil, arith, cond, eqb, false, get_or, inl, inr, length, length-append, ltb-true, map, not, option_to_list, refl, rules, subst, suc, sym, true, vec_len, zero, ℕ, ◌&&◌, ◌++◌, ◌+◌, ◌<◌, ◌==◌, ◌↔◌, ◌∙◌, ◌∷◌, ◌≡◌, ◌≤◌}

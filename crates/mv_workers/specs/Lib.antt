@@ -1,4 +1,3 @@
 pub mod Work
-pub mod Desks
 pub mod Plans
-pub mod Crews
+pub mod inside

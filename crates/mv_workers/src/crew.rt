@@ -3,7 +3,7 @@
 ghost use Rattle.std.specs.Prelude.{◌≡◌, ◌≤◌, [], map, vec_len, vec_capacity, IfOk, IfSome};
 ghost use Rattle.mv_ends.specs.HubEnd.{SameHubEnd};
 ghost use Rattle.mv_ends.specs.Laws.{AreSameRepos};
-ghost use Rattle.mv_workers.specs.Desks.{AllUnused, IsFurther};
+ghost use Rattle.mv_workers.specs.inside.Desks.{AllUnused, IsFurther};
 
 use crate::course::Course;
 use crate::desk::Desk;
@@ -88,7 +88,7 @@ pub(crate) struct CrewEnds {
 impl Crew {
     ghost use Rattle.mv_workers.specs.Work.{lists_of};
     ghost use Rattle.mv_workers.specs.Plans.{IsSound};
-    ghost use Rattle.mv_workers.specs.Crews.{AreBegun, IsCrewOf, IsBack, end_of, work_of};
+    ghost use Rattle.mv_workers.specs.inside.Crews.{AreBegun, IsCrewOf, IsBack, end_of, work_of};
 
     /// Gets all that a run by a plan needs. Refused for want of memory.
     #[tactic(auto, using(crate::proofs::PlanLemmas::ends_each, crate::proofs::PlanLemmas::fresh_parties))]

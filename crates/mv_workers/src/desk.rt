@@ -2,7 +2,7 @@
 
 ghost use Rattle.std.specs.Prelude.{◌≡◌, ◌==◌, ◌++◌, ◌∷◌, [], length, IfErr, OnOk};
 ghost use Rattle.mv_ends.specs.RepoEnd.{SameRepoEnd};
-ghost use Rattle.mv_workers.specs.Desks.{own_of, IsUnused, work_at, IsFurther};
+ghost use Rattle.mv_workers.specs.inside.Desks.{own_of, IsUnused, work_at, IsFurther};
 
 use crate::gate::Gate;
 use crate::turns::has_moved;

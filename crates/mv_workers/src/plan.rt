@@ -24,7 +24,7 @@ pub enum WorkFault {
     Unfinished(Outcome),
     /// K2: memory was refused to a worker.
     Memory(Outcome),
-    /// K3: the ends could not be opened, or a worker not be started; nothing was submitted.
+    /// K3: memory was refused before the first worker, or a worker could not be started; nothing was submitted.
     Start,
     /// K4: the plan has another number of lists than of parties, or an answer is planned; nothing ran.
     Plan,

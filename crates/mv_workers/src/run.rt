@@ -1,7 +1,7 @@
 //! A run by a plan.
 
 ghost use Rattle.std.specs.Prelude.{◌↔◌, IfOk, IfErr, IfSome, IsTrue};
-ghost use Rattle.mv_workers.specs.Crews.{IsBack};
+ghost use Rattle.mv_workers.specs.inside.Crews.{IsBack};
 ghost use Rattle.mv_workers.specs.Plans.{IsSound, KeepsPlan, IsComplete, Faults};
 
 use crate::complete::is_carried;

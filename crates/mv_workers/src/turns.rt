@@ -1,7 +1,7 @@
 //! The turns of each worker.
 
 ghost use Rattle.mv_ends.specs.HubEnd.{SameHubEnd};
-ghost use Rattle.mv_workers.specs.Desks.{IsFurther};
+ghost use Rattle.mv_workers.specs.inside.Desks.{IsFurther};
 
 use crate::course::Course;
 use crate::desk::Desk;

@@ -2,7 +2,7 @@
 
 ghost use Rattle.std.specs.Prelude.{◌≡◌, ◌<◌, ℕ, [], ◌∷◌, length, replicate, true};
 ghost use Rattle.mv_hub.specs.Words.{HasRoom, IsSquare, has_party, parties_in};
-ghost use Rattle.mv_hub.specs.Kept.{PushesItems, PushesRow, gain_of, link_at, receipt_to};
+ghost use Rattle.mv_hub.specs.inside.Kept.{PushesItems, PushesRow, gain_of, link_at, receipt_to};
 ghost use Rattle.mv_hub.specs.Targets.{is_query};
 
 use crate::hub::routing::Routing;

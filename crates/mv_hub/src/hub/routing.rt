@@ -7,7 +7,7 @@ ghost use Rattle.mv_hub.specs.Record.{routed_count};
 ghost use Rattle.mv_hub.specs.Targets.{reach};
 ghost use Rattle.mv_link.specs.Fault.{FailsBy};
 ghost use Rattle.mv_hub.specs.Hub.{is_busy, busy_party, route_fault, with_routed};
-ghost use Rattle.mv_hub.specs.Kept.{IsRouting};
+ghost use Rattle.mv_hub.specs.inside.Kept.{IsRouting};
 
 use crate::hub::Hub;
 use crate::hub::gains::put_gains;

@@ -4,7 +4,7 @@ ghost use Rattle.std.specs.Prelude.{◌≡◌, length, IsTrue, slice_get};
 ghost use Rattle.mv_machine.specs.Limits.{AreBounds};
 ghost use Rattle.mv_hub.specs.Hub.{are_parties};
 ghost use Rattle.mv_machine.specs.State.{is_uplink_full, is_party, wire_of, is_wire_full};
-ghost use Rattle.mv_system.specs.World.{numbers_of};
+ghost use Rattle.mv_system.specs.inside.World.{numbers_of};
 
 use crate::world::World;
 use circular_buffer::HeapCircularBuffer;

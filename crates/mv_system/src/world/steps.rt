@@ -4,7 +4,7 @@
 ghost use Rattle.std.specs.Prelude.{◌≡◌};
 ghost use Rattle.mv_machine.specs.Runs.{Meets, Allows};
 ghost use Rattle.mv_machine.specs.Steps.{ask};
-ghost use Rattle.mv_system.specs.World.{reply_of};
+ghost use Rattle.mv_system.specs.inside.World.{reply_of};
 
 use crate::world::World;
 use mv_machine::{Refusal, Reply, Step};

@@ -1,6 +1,6 @@
-use Rattle.mv_engine.proofs.Words.{rules, arith, ◌≡◌, ◌≢◌, length, ap, nil_from_length, strip_last}
-use Rattle.mv_engine.proofs.InputLemmas.{one_kept, reply_dropped}
-use Rattle.mv_engine.proofs.RepliesLemmas.{nothing_added, reply_added, none_said}
+use Rattle.mv_engine.proofs.Words.{rules, arith, ◌≡◌, ◌≢◌, inr, length, ap, nil_from_length, strip_last}
+use Rattle.mv_engine.proofs.InputLemmas.{one_kept}
+use Rattle.mv_engine.proofs.RepliesLemmas.{nothing_added, reply_added, none_said, took_one}
 use Rattle.mv_engine.proofs.input.answer_piece.Goals as goal
 
 -- the line is empty
@@ -28,4 +28,9 @@ returns-clause-ok g c =
 
 -- there is a reply, and no memory for its line feed
 pub returns-then-is_err-clause-left : goal.returns-then-is_err-clause-left
-returns-then-is_err-clause-left g c = grind (arith, reply_dropped g.S.Answering.replies _ c.args.piece.now _ _ _ _ (search rules) c.in_ok-answer.ensures.ok.2)
+returns-then-is_err-clause-left g c =
+    let line = c.without_return-line.result.now in
+    let stripped : line ≡ strip_last 13 c.args.piece.now = search rules in
+    let some : length line ≢ 0 = search rules in
+    took_one g.S.Answering.replies c.args.count c.args.piece.now line c.args.answering.now _ stripped (λ nil. some (ap length nil))
+    (inr (_, c.in_ok-answer.ensures.ok.2))

@@ -3,4 +3,4 @@ use Rattle.mv_json.proofs.MetLemmas.{text_begins}
 use Rattle.mv_format.proofs.token_line.take_text_part.Goals as goal
 
 pub returns : goal.returns
-returns c = let text = c.in_ok-text.text.now in (string text, rw c.in_ok-text.ensures.text (text_begins 3 text _), refl)
+returns c = let text = c.in_ok-text.text.now in (string text, rw c.in_ok-text.ensures.text (text_begins 2 text _), refl)

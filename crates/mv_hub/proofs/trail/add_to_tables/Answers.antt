@@ -1,6 +1,6 @@
 use Rattle.std.proofs.Common.{sym, inl, inr, arith, append-nil}
 use Rattle.std.proofs.lemmas.Result.{on_ok_weaker}
-use Rattle.mv_hub.specs.Tables.{Notes}
+use Rattle.mv_hub.specs.inside.Tables.{Notes}
 use Rattle.mv_hub.proofs.ListingLemmas.{text-same}
 use Rattle.mv_hub.proofs.TrailLemmas.{tables-push}
 use Rattle.mv_hub.proofs.trail.add_to_tables.Goals as goal

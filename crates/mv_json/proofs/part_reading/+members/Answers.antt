@@ -1,4 +1,5 @@
-use Rattle.mv_json.proofs.Words.{◌≡◌, ◌∷◌, length, sym, subst, ap, arith, rules, [], deep_in, end_object, field_name, key}
+use Rattle.mv_json.proofs.Words.{◌≡◌, ℕ, List, ◌∷◌, length, sym, subst, ap, arith, rules, [], BeginWithPart, Token, deep_in, end_object, field_name, key}
+use Rattle.std.proofs.lemmas.Option.{IfSome_then}
 use Rattle.mv_json.proofs.MetLemmas.{none_met, all_met, begun_shorter}
 use Rattle.mv_json.proofs.PartLemmas.{AreEntries, one_more_entry}
 use Rattle.mv_json.proofs.part_reading.+members.Goals as goal
@@ -24,3 +25,7 @@ take_members-returns t c =
     let deep = deep_in c.args.is_inside in
     let at : c.loop-entries.reader ≡ end_object ∷ c.next_field.new.reader = rw c.in_default-2.is at c.in_ok-field.ensures in
     all_met _ _ deep _ _ _ (subst (AreEntries deep c.args.reader.now c.loop-entries.entries.items) at c.loop-entries.invariant)
+
+pub take_part-returns-in_default : goal.take_part-returns-in_default
+take_part-returns-in_default t c =
+    rw c.in_ok-token.ensures.value (IfSome_then _ c.single.ensures (λ part (says : (deep : ℕ) (rest : List Token) → BeginWithPart deep (_ ∷ rest) part rest). says _ _))

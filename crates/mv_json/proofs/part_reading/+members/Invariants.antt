@@ -1,5 +1,5 @@
 use Rattle.std.proofs.Common.{◌+◌, ◌*◌, length}
-use Rattle.mv_json.specs.Parts.{deep_in}
+use Rattle.mv_json.specs.inside.Parts.{deep_in}
 use Rattle.mv_json.proofs.PartLemmas.{AreEntries}
 use Rattle.mv_json.proofs.part_reading.+members.Given as goal
 
@@ -17,4 +17,4 @@ abbrev pub decreases-take_part : goal.decreases-take_part
 decreases-take_part l = 3 * deep_in l.is_inside
 
 abbrev pub decreases-take_found : goal.decreases-take_found
-decreases-take_found l = 5
+decreases-take_found l = 2

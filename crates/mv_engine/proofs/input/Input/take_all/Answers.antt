@@ -29,6 +29,6 @@ returns-clause-ok g c =
 pub returns-clause-err : goal.returns-clause-err
 returns-clause-err g c =
     IfErr-weaker c.take_part.result _ _ (λ fault stops.
-    let part = stopped_in g.S.Answering.replies _ _ _ [] _ _ (absent_unended _ c.in_default.ensures) c.loop-end.self.few stops in
+    let part = stopped_in g.S.Answering.replies _ _ _ [] _ _ _ (absent_unended _ c.in_default.ensures) c.loop-end.self.few stops in
     grown_stopped g.S.Answering.replies _ _ _ _ [] (simp append-nil c.loop-end.invariant.1) c.loop-end.invariant.3 c.loop-end.invariant.4
     ([], none_added _ _ c.take_part.ensures.replies, part)) c.take_part.ensures.err

@@ -1,5 +1,5 @@
 use Rattle.mv_engine.proofs.Words.{arith, refl, [], common_steps, err_from_is_err_and}
-use Rattle.mv_engine.proofs.InputLemmas.{none_added, none_may_follow, part_unanswered, stopped_in, line_taken}
+use Rattle.mv_engine.proofs.InputLemmas.{none_added, none_may_follow, line_unanswered, stopped_in, line_taken}
 use Rattle.mv_engine.proofs.input.Input.take_line.Goals as goal
 
 -- the line may not be so long, or no line may follow
@@ -16,7 +16,7 @@ returns-then-self-eq-LINES_LIMIT-clause-err g c = grind (arith, common_steps, no
 pub returns-in_err-answer_line-clause-err : goal.returns-in_err-answer_line-clause-err
 returns-in_err-answer_line-clause-err g c =
     let p = err_from_is_err_and c.from_residual-in_err-answer_line.result c.from_residual-in_err-answer_line.ensures.1 in
-    rw (p.1, p.2, c.in_err-answer_line.ensures.fault) ([], none_added _ _ c.in_err-answer_line.ensures.err, grind (arith, part_unanswered))
+    rw (p.1, p.2, c.in_err-answer_line.ensures.fault) ([], none_added _ _ c.in_err-answer_line.ensures.err, grind (arith, line_unanswered))
 
 -- the line is answered
 pub returns-clause-ok : goal.returns-clause-ok

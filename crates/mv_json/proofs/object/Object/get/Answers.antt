@@ -1,5 +1,5 @@
 use Rattle.mv_json.specs.declared.object.Place.TheVariants as places
-use Rattle.mv_json.specs.Parts.{entry}
+use Rattle.mv_json.specs.inside.Parts.{entry}
 use Rattle.mv_json.proofs.MetLemmas.{stands}
 use Rattle.mv_json.proofs.PartLemmas.{is_there}
 use Rattle.mv_json.proofs.object.Object.get.Goals as goal

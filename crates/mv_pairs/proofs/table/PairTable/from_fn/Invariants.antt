@@ -1,6 +1,6 @@
 use Rattle.std.proofs.Common.{◌≡◌, length, Ok}
 use Rattle.std.specs.List.{All}
-use Rattle.mv_pairs.specs.Pairs.{rows_of}
+use Rattle.mv_pairs.specs.inside.Pairs.{rows_of}
 use Rattle.mv_pairs.proofs.table.PairTable.from_fn.Given as goal
 
 abbrev pub invariant-loop-from : goal.invariant-loop-from

@@ -1,7 +1,8 @@
 -- What stands in the fields of a line, as they are met in its object; and the tokens of JSON that it is read from.
 use Rattle.std.specs.Prelude.{◌≡◌, ◌<◌, ◌^◌, ℕ, List, Result, Ok}
 use Rattle.mv_format.specs.Words.{Data, GivesOr, LineFault, LineField, Memory, Request, Token, read_message, string, view, whole}
-use Rattle.mv_json.specs.Met.{BeginWith, HasMet}
+use Rattle.mv_json.specs.Met.{BeginWith}
+use Rattle.mv_json.specs.inside.Met.{HasMet}
 use Rattle.mv_format.specs.declared.line_part.LineEntry.{LineEntry}
 use Rattle.mv_format.specs.declared.line_part.LineObject.{LineObject}
 use Rattle.mv_format.specs.declared.line_part.LinePart.{LinePart}
@@ -32,11 +33,11 @@ HasEntries found entries = HasMet entry_name (λ part met. IsPart part met.part)
 
 -- the tokens are a value that says this part, then the rest
 abbrev pub BeginWithPart : List Token → LinePart → List Token → Type 0
-BeginWithPart ts part rest = (found : Data) × BeginWith 3 ts found rest × IsPart found part
+BeginWithPart ts part rest = (found : Data) × BeginWith 2 ts found rest × IsPart found part
 
 -- the tokens are an object that has these fields, and no other, then the rest
 abbrev pub BeginWithEntries : List Token → List LineEntry → List Token → Type 0
-BeginWithEntries ts entries rest = (found : Data) × BeginWith 4 ts found rest × HasEntries found entries
+BeginWithEntries ts entries rest = (found : Data) × BeginWith 3 ts found rest × HasEntries found entries
 
 -- what a reading of an object gives is told by its fields
 abbrev pub Tells : {A : Type 0} → (Data → Result A LineFault) → List LineEntry → A → Type 0
@@ -59,4 +60,4 @@ MayGive reading object result = (value : Data) → Stands value object → Gives
 
 -- the tokens are an object that asks this, then the rest
 abbrev pub Asks : List Token → Request → List Token → Type 0
-Asks ts request rest = (found : Data) × BeginWith 4 ts found rest × (read_request found ≡ Ok request)
+Asks ts request rest = (found : Data) × BeginWith 3 ts found rest × (read_request found ≡ Ok request)

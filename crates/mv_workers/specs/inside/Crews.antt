@@ -14,7 +14,7 @@ use Rattle.mv_workers.specs.declared.crew.DeskPromise.{DeskPromise}
 use Rattle.mv_workers.specs.declared.desk.Desk.{Desk}
 use Rattle.mv_workers.specs.declared.plan.Plan.{Plan}
 use Rattle.mv_workers.specs.Work.{lists_of}
-use Rattle.mv_workers.specs.Desks.{own_of, work_at}
+use Rattle.mv_workers.specs.inside.Desks.{own_of, work_at}
 
 -- the handle of a repository's worker
 abbrev pub Handle : Type 0

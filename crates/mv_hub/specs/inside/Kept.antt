@@ -5,7 +5,7 @@ use Rattle.mv_hub.specs.declared.catalogue.Catalogue.{Catalogue}
 use Rattle.mv_link.specs.declared.party_set.PartySet.{PartySet}
 use Rattle.mv_hub.specs.Record.{routed_count, is_open}
 use Rattle.mv_hub.specs.Catalogue.{catalogue_of}
-use Rattle.mv_hub.specs.Tables.{catalogue_in, LinkTable, linked_in}
+use Rattle.mv_hub.specs.inside.Tables.{catalogue_in, LinkTable, linked_in}
 use Rattle.mv_hub.specs.BatchLinks.{linked_to}
 use Rattle.mv_hub.specs.Links.{link_items}
 use Rattle.mv_hub.specs.declared.hub.routing.Routing.{Routing}

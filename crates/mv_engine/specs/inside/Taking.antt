@@ -19,4 +19,4 @@ pub record Taken {S : Type 0} (rule : ReplyRule S) (begun : List ℕ) (count : �
 abbrev pub Halted : {S : Type 0} → ReplyRule S → ServeFault → List ℕ → ℕ → S → List ℕ → List (List ℕ) → S
     → Option (List ℕ) → Option (List ℕ) → Type 0
 Halted rule Write begun count before bytes ps after old new = WroteAt rule count before ps after old new
-Halted rule fault begun count before bytes ps after old new = Wrote old new (StoppedAt rule fault begun count before bytes after)
+Halted rule fault begun count before bytes ps after old new = Wrote old new (StoppedAt rule fault begun count before bytes ps after)

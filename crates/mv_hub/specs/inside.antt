@@ -1,0 +1,3 @@
+-- What only invariants, private functions and proofs name.
+pub mod Kept
+pub mod Tables

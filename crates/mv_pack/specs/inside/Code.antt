@@ -1,0 +1,24 @@
+-- Serial numbers, batch numbers and national numbers, as texts, by the GS1 General Specifications.
+use Rattle.std.specs.Prelude.{◌≡◌, ℕ, ◌+◌, ◌-◌, ◌++◌, replicate, ◌==◌, not, Bool, List, length}
+use Rattle.mv_pack.specs.Words.{before_first}
+use Rattle.mv_pack.specs.Code.{IsCode, most_code_bytes}
+
+-- a text with zeros behind it, 20 bytes in all
+abbrev pub filled_up : List ℕ → List ℕ
+filled_up text = text ++ replicate (most_code_bytes - length text) 0
+
+-- a byte stands for no character
+abbrev pub is_zero : ℕ → Bool
+is_zero byte = byte == 0
+
+-- a byte is filled: it is not zero
+abbrev pub is_filled : ℕ → Bool
+is_filled byte = not (is_zero byte)
+
+-- what stands before the first zero
+abbrev pub text_before : List ℕ → List ℕ
+text_before bytes = before_first is_zero bytes
+
+-- a code with zeros behind it
+abbrev pub IsFilledUp : List ℕ → Type 0
+IsFilledUp bytes = IsCode (text_before bytes) × (bytes ≡ filled_up (text_before bytes))

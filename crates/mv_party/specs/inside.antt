@@ -1,0 +1,2 @@
+-- What only invariants, private functions and proofs name.
+pub mod Kept

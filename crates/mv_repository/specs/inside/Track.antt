@@ -1,0 +1,185 @@
+-- What is kept of one pack: its first upload, its statuses in the order of stamps, the entry by which the pack stands behind
+use Rattle.std.specs.Prelude.{if◌then◌else◌, ◌≡◌, ◌≤◌, ◌+◌, ◌%◌, ◌∷◌, ◌++◌}
+use Rattle.mv_repository.specs.Words.{ℕ, List, [], take, Option, Some, None, option_and_then, option_map, option_map_or, BatchKey, Standing, Message, Status, Item, LogEntry, Effect, BatchStanding, unwrap_or, Held, batch_key, ⊤, length, drop, true, AllByRecursion, PARTIES_LIMIT, PartySet, map, fold, PackKey, Block}
+use Rattle.mv_message.specs.declared.standing.Standing.TheVariants as standings
+use Rattle.mv_repository.specs.declared.effect.Effect.TheVariants as effects
+use Rattle.mv_repository.specs.declared.state.Basis.{Basis}
+use Rattle.mv_repository.specs.Order.{Placed, stands_before, ordered}
+use Rattle.mv_repository.specs.Pack.{effect_of, KnownPack, KnownChange, is_active, is_done, change_effect, held_of}
+use Rattle.mv_repository.specs.Stops.{FirstStops, standing_at, entry_at, message_in, first_stops}
+use Rattle.mv_repository.specs.inside.Stops.{stops_in, place_of}
+use Rattle.mv_link.specs.PartySets.{has_party}
+use Rattle.mv_repository.specs.declared.blocks.Cut.{Cut}
+use Rattle.mv_repository.specs.Track.{first_upload, pack_made_by, statuses_of}
+
+-- the batch of the packs that an item uploads, and that the entry at a place of a log does
+abbrev pub made_batch : Item → Option (List ℕ)
+made_batch item = option_map (λ (made : KnownPack). made.batch) (pack_made_by item)
+
+abbrev pub batch_at : List LogEntry → ℕ → Option (List ℕ)
+batch_at log place = made_batch (entry_at log place).entry.item
+
+-- how a pack stands that stands by an item: as a status asked, else active
+abbrev pub standing_of : Option Message → Standing
+standing_of (Some (Status key to user at)) = to
+standing_of _ = standings.Active
+
+abbrev pub standing_in : Item → Standing
+standing_in item = standing_of (message_in item)
+
+-- what took it from active, where it stands by a status of a sender at a place of the log
+abbrev pub change_of : ℕ → ℕ → Message → Option KnownChange
+change_of place sender (Status key to user at) = Some (record { by = sender; user = user; at = at; entry = place })
+change_of place sender _ = None
+
+abbrev pub change_in : Placed → Option KnownChange
+change_in placed = option_and_then (change_of placed.place placed.entry.sender) (message_in placed.entry.item)
+
+-- the pack that an upload made, where it stands by an entry
+abbrev pub known_at : Placed → Placed → Option KnownPack
+known_at birth by =
+    option_map
+    (λ (made : KnownPack). record made { standing = standing_in by.entry.item; change = change_in by })
+    (pack_made_by birth.entry.item)
+
+-- the same by places in a log, as a repository shows it
+abbrev pub held_at : List LogEntry → ℕ → ℕ → Option Held
+held_at log birth by = option_map held_of (known_at (entry_at log birth) (entry_at log by))
+
+-- the effect of an item on a pack that is held, where it is a status of it
+abbrev pub effect_from : (BatchKey → BatchStanding) → ℕ → Option Message → List ℕ → KnownPack → Effect
+effect_from standing sender (Some (Status key to user at)) gtin held =
+    change_effect held (standing (batch_key gtin held.batch)) to sender user at
+effect_from standing sender _ gtin held = effects.Noted
+
+-- the effect of a status on a pack of a product, by its first upload and by the entry by which it stands; none stands
+-- before that upload
+abbrev pub effect_on : FirstStops → List ℕ → Option Placed → Placed → Placed → Effect
+effect_on stops gtin None by placed = effects.Unknown
+effect_on stops gtin (Some birth) by placed =
+    if stands_before birth placed
+    then option_map_or (effect_from (standing_at stops placed) placed.entry.sender (message_in placed.entry.item) gtin) (known_at birth by) effects.Unknown
+    else effects.Unknown
+
+-- what the newest entry of a log does, which stands at a place
+abbrev pub newest_effect : List LogEntry → ℕ → Effect
+newest_effect log place = effect_of (take place log) (entry_at log place).entry
+
+-- By which entry the pack stands then: a change is by the status, and a revert leaves the pack as its upload made it.
+abbrev pub next_by : FirstStops → List ℕ → Option Placed → Placed → Placed → Placed
+next_by stops gtin None by placed = by
+next_by stops gtin (Some birth) by placed =
+    if is_done (effect_on stops gtin (Some birth) by placed)
+    then (if is_active (standing_in placed.entry.item) then birth else placed)
+    else by
+
+-- the same by places in a log
+abbrev pub next_place : List LogEntry → FirstStops → List ℕ → Option ℕ → ℕ → ℕ → ℕ
+next_place log stops gtin birth by place =
+    (next_by stops gtin (option_map (entry_at log) birth) (entry_at log by) (entry_at log place)).place
+
+-- by what a pack is worked out: the first stops, the entry at a place, and by which entry the pack stands in front of its
+-- statuses, and behind one of them
+abbrev pub stops_of : Basis → FirstStops
+stops_of basis = stops_in basis.log.now basis.stops.now
+
+abbrev pub entry_in : Basis → ℕ → Placed
+entry_in basis = entry_at basis.log.now
+
+abbrev pub start_in : Basis → ℕ
+start_in basis = unwrap_or basis.birth 0
+
+-- the effect of the status at a place, where the pack stands by an entry
+abbrev pub effect_in : Basis → ℕ → ℕ → Effect
+effect_in basis by place =
+    effect_on (stops_of basis) basis.gtin.now (option_map (entry_in basis) basis.birth) (entry_in basis by) (entry_in basis place)
+
+abbrev pub next_in : Basis → ℕ → ℕ → ℕ
+next_in basis = next_place basis.log.now (stops_of basis) basis.gtin.now basis.birth
+
+-- an entry is no revert, or its sender may be among these: a set seems to have all whose numbers differ from that of one by the
+-- greatest number of parties
+abbrev pub IsCovered : PartySet → Placed → Type 0
+IsCovered senders placed = is_active (standing_in placed.entry.item) ≡ true → has_party senders (placed.entry.sender % PARTIES_LIMIT) ≡ true
+
+-- What is known of a block by the statuses in it: what they leave of a pack that comes to them active, and whose reverts are
+-- among them. Of too many senders is right, of too few is not.
+abbrev pub IsSummary : {A : Type 0} → (A → Placed) → (A → A → A) → A → Block → List A → Type 0
+IsSummary entry next start block own =
+    (block.of_active ≡ (entry (fold next start own)).place) × AllByRecursion (λ status. IsCovered block.reverters (entry status)) own
+
+-- blocks are those of the first of these statuses, of a pack that comes to them by an entry
+abbrev pub AreBlocks : {A : Type 0} → (A → Placed) → (A → A → A) → A → A → List Block → List A → Type 0
+AreBlocks entry next start by [] own = ⊤
+AreBlocks entry next start by (block ∷ rest) own =
+    (block.count ≤ length own) × (block.after ≡ (entry (fold next by (take block.count own))).place)
+    × IsSummary entry next start block (take block.count own)
+    × AreBlocks entry next start (fold next by (take block.count own)) rest (drop block.count own)
+
+-- blocks that are right in front of others, where these go by the rest of the statuses, to which the pack comes by an entry
+abbrev pub IsFront : (ℕ → Placed) → (ℕ → ℕ → ℕ) → ℕ → List Block → List ℕ → ℕ → List ℕ → Type 0
+IsFront entry next start blocks own by rest =
+    (more : List Block) → AreBlocks entry next start by more rest → AreBlocks entry next start start (blocks ++ more) own
+
+-- some of these blocks end at a cut
+pub record IsCut (entry : ℕ → Placed) (next : ℕ → ℕ → ℕ) (start : ℕ) (blocks : List Block) (own : List ℕ) (cut : Cut) : Type 0 where
+  pub within : cut.start ≤ length own
+  pub by : cut.by ≡ fold next start (take cut.start own)
+  pub front : (rest : List ℕ) → IsFront entry next start (take cut.number blocks) (take cut.start own ++ rest) cut.by rest
+  pub behind : AreBlocks entry next start cut.by (drop cut.number blocks) (drop cut.start own)
+
+-- statuses but for the one at a place
+abbrev pub without : List ℕ → ℕ → List ℕ
+without own at = take at own ++ drop (at + 1) own
+
+-- what a log means for a pack: its first upload, its statuses, and by which entry it stands behind one of them, where it
+-- stood by another
+pub record Life : Type 0 where
+  pub birth : Option Placed
+  pub statuses : List Placed
+  pub next : Placed → Placed → Placed
+
+abbrev pub life_of : PackKey → List LogEntry → Life
+life_of pack log = record {
+  birth = first_upload pack (ordered log);
+  statuses = statuses_of pack (ordered log);
+  next = next_by (first_stops (ordered log)) pack.gtin (first_upload pack (ordered log));
+}
+
+-- the entry by which a pack stands in front of its statuses: its upload
+abbrev pub start_of : Life → Placed
+start_of life = unwrap_or life.birth (entry_at [] 0)
+
+-- what is kept of a pack, by places in the log
+pub record Kept : Type 0 where
+  pub birth : Option ℕ
+  pub statuses : List ℕ
+  pub by : ℕ  -- the entry by which it stands behind all
+  pub blocks : List Block  -- what many statuses do, as far as that is known
+
+-- the same but for the blocks
+abbrev pub bare : Kept → Kept
+bare kept = record kept { blocks = [] }
+
+-- what is to be kept of a pack, but for the blocks
+abbrev pub kept_of : Life → Kept
+kept_of life = record {
+  birth = option_map place_of life.birth;
+  statuses = map place_of life.statuses;
+  by = (fold life.next (start_of life) life.statuses).place;
+  blocks = [];
+}
+
+abbrev pub track_of : PackKey → List LogEntry → Kept
+track_of pack log = kept_of (life_of pack log)
+
+-- a pack is kept as a log means it, and its blocks are those of its first statuses
+pub record IsKept (life : Life) (kept : Kept) : Type 0 where
+  pub bare : bare kept ≡ kept_of life
+  pub blocks : AreBlocks (λ placed. placed) life.next (start_of life) (start_of life) kept.blocks life.statuses
+
+-- a pack is worked out, by places in a log
+pub record IsTrack (log : List LogEntry) (stops : FirstStops) (gtin : List ℕ) (kept : Kept) : Type 0 where
+  pub by : kept.by ≡ fold (next_place log stops gtin kept.birth) (unwrap_or kept.birth 0) kept.statuses
+  pub blocks : AreBlocks (entry_at log) (next_place log stops gtin kept.birth) (unwrap_or kept.birth 0) (unwrap_or kept.birth 0)
+      kept.blocks kept.statuses

@@ -1,12 +1,7 @@
 -- What is said of lines that are only checked.
-use Rattle.std.proofs.Common.{◌≡◌, ◌∷◌, ◌&&◌, ℕ, List, [], Bool, true, is_ok, None, Some, IfSome, refl, map, arith}
-use Rattle.std.specs.declared.option.Option.{Option}
+use Rattle.mv_checks.proofs.Words.{Appends, AreReplies, Bool, IfSome, Line, List, None, Option, Served, Some, [], arith, is_ok, lines_from, map, pieces, refl, true, ℕ, ◌&&◌, ◌∷◌, ◌≡◌}
 use Rattle.std.specs.List.{list_all}
-use Rattle.std.specs.Io.KnownBytes.{Appends}
 use Rattle.mv_json.specs.Messages.{read_bytes}
-use Rattle.mv_engine.specs.Lines.{Line, lines_from, pieces}
-use Rattle.mv_engine.specs.Replies.{AreReplies}
-use Rattle.mv_engine.specs.Served.{Served}
 use Rattle.mv_checks.specs.Checks.{IsChecked, are_messages, checked, refusals_of}
 
 -- the texts are what is said of the lines

@@ -1,2 +1,3 @@
+pub mod Words
 pub mod CheckLemmas
 pub mod StrictLemmas

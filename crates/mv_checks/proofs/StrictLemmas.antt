@@ -1,13 +1,8 @@
 -- The replies of a run whose lines are counted are those of one whose lines are not.
-use Rattle.std.proofs.Common.{◌≡◌, ◌∷◌, ℕ, List, [], None, Some, IfErr, IfSome, if◌then◌else◌, Result, Ok, Err, ap, inl, inr, refl, subst, sym}
-use Rattle.std.specs.Io.KnownBytes.{Consumes}
-use Rattle.std.specs.declared.option.Option.{Option}
+use Rattle.mv_checks.proofs.Words.{AreAnswered, AreReplies, Consumes, Ended, EndedAt, Err, GotNoReply, IfErr, IfSome, Line, List, None, Ok, Option, Result, Served, Some, StoppedAt, TookAtMostOne, [], ap, if◌then◌else◌, inl, inr, refl, subst, sym, ℕ, ◌∷◌, ◌≡◌}
 use Rattle.mv_format.specs.declared.answered.Answered.{Answered}
 use Rattle.mv_engine.specs.declared.fault.ServeFault.{ServeFault}
 use Rattle.mv_engine.specs.declared.fault.ServeFault.TheVariants as faults
-use Rattle.mv_engine.specs.Lines.{Line}
-use Rattle.mv_engine.specs.Replies.{AreReplies, GotNoReply}
-use Rattle.mv_engine.specs.Served.{AreAnswered, Ended, EndedAt, Served, StoppedAt, TookAtMostOne}
 use Rattle.mv_format.specs.ReplyLines.{is_refused}
 use Rattle.mv_lines.specs.Sessions.{IsReply, IsTaken, Open}
 use Rattle.mv_checks.specs.Strict.{IsStrictReply, Strict, tallied}
@@ -56,20 +51,25 @@ stopped_uncounted fault before after bytes ps out stopped = record {
 }
 
 -- and of one that a fault ended
-ended_uncounted : (fault : ServeFault) (before after : Strict) (bytes : List ℕ) (old new : Option (List ℕ)) → EndedAt IsStrictReply fault before bytes after old new
-    → EndedAt IsReply fault before.0 bytes after.0 old new
-ended_uncounted faults.Read before after bytes old new at_end = (at_end.0, (at_end.1.0, at_end.1.1, uncounted at_end.1.2))
-ended_uncounted faults.Write before after bytes old new wrote = record {
-  first = wrote.first;
-  unanswered = wrote.unanswered;
-  cut = wrote.cut;
-  ready = wrote.ready;
-  behind = wrote.behind.0;
-  answered = uncounted wrote.answered;
-  written = wrote.written;
-  left = took_uncounted _ wrote.behind after _ wrote.left;
-}
-ended_uncounted fault before after bytes old new at_end = (at_end.0, at_end.1, stopped_uncounted fault before after bytes _ at_end.0 at_end.2)
+ended_uncounted : (fault : ServeFault) (before after : Strict) (bytes : List ℕ) (rest old new : Option (List ℕ))
+    → EndedAt IsStrictReply fault before bytes rest after old new → EndedAt IsReply fault before.0 bytes rest after.0 old new
+ended_uncounted faults.Read before after bytes rest old new at_end = (at_end.0, (at_end.1.0, at_end.1.1, uncounted at_end.1.2))
+ended_uncounted faults.Write before after bytes rest old new (ps, whole, wrote) = (
+  ps,
+  whole,
+  record {
+    first = wrote.first;
+    unanswered = wrote.unanswered;
+    cut = wrote.cut;
+    ready = wrote.ready;
+    behind = wrote.behind.0;
+    answered = uncounted wrote.answered;
+    written = wrote.written;
+    left = took_uncounted _ wrote.behind after _ wrote.left;
+  },
+)
+ended_uncounted fault before after bytes rest old new (ps, whole, (out, went, stopped)) =
+    (ps, whole, (out, went, stopped_uncounted fault before after bytes ps out stopped))
 
 module _ (before after : Strict) (world : Open) (begins : before.0 ≡ world) (old new : Option (List ℕ)) where
   -- the same of a run over an input that may be known
@@ -81,11 +81,11 @@ module _ (before after : Strict) (world : Open) (begins : before.0 ≡ world) (o
 
   -- and of one that a fault ended
   pub ended_input : (fault : ServeFault) (input rest : Option (List ℕ))
-      → ((bytes : List ℕ) × Consumes input rest bytes × Ended IsStrictReply fault before bytes old new)
-      → (bytes : List ℕ) × Consumes input rest bytes × Ended IsReply fault world bytes old new
+      → ((bytes : List ℕ) × Consumes input rest bytes × Ended IsStrictReply fault before bytes rest old new)
+      → (bytes : List ℕ) × Consumes input rest bytes × Ended IsReply fault world bytes rest old new
   ended_input fault input rest (bytes, consumed, (last, ended)) =
-      let uncounted = ended_uncounted fault before last bytes old new ended in
-      (bytes, consumed, subst (λ w. Ended IsReply fault w bytes old new) begins (last.0, uncounted))
+      let uncounted = ended_uncounted fault before last bytes rest old new ended in
+      (bytes, consumed, subst (λ w. Ended IsReply fault w bytes rest old new) begins (last.0, uncounted))
 
 -- a line that was taken and counted may get no reply
 pub counted_unanswered : {A E : Type 0} (r : Result A E) (before after : Strict) (line : Line) (answered : Answered)
@@ -97,12 +97,12 @@ counted_unanswered (Err e) before after line answered taken counted = inr (_, (a
 -- what was counted when a fault ended a run in which nothing was open, nor counted
 pub counted_input : (fault : ServeFault) (first last : Open) (untaken : Option Untaken) (after : Strict) (input rest old new : Option (List ℕ))
     → first ≡ None → (last, untaken) ≡ after
-    → (bytes : List ℕ) × Consumes input rest bytes × EndedAt IsStrictReply fault (first, None) bytes after old new
-    → (bytes : List ℕ) × Consumes input rest bytes × (last : Open) × EndedAt IsStrictReply fault (None, None) bytes (last, untaken) old new
+    → (bytes : List ℕ) × Consumes input rest bytes × EndedAt IsStrictReply fault (first, None) bytes rest after old new
+    → (bytes : List ℕ) × Consumes input rest bytes × (last : Open) × EndedAt IsStrictReply fault (None, None) bytes rest (last, untaken) old new
 counted_input fault first last untaken after input rest old new nothing is (bytes, consumed, ended) = (
   bytes,
   consumed,
   last,
-  subst (λ (s : Strict). EndedAt IsStrictReply fault (None, None) bytes s old new) (sym is)
-      (subst (λ (w : Open). EndedAt IsStrictReply fault (w, None) bytes after old new) nothing ended),
+  subst (λ (s : Strict). EndedAt IsStrictReply fault (None, None) bytes rest s old new) (sym is)
+      (subst (λ (w : Open). EndedAt IsStrictReply fault (w, None) bytes rest after old new) nothing ended),
 )

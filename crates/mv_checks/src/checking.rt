@@ -1,6 +1,6 @@
 //! Checks messages, a line each.
 
-ghost use Rattle.std.specs.Prelude.{◌≡◌, ℕ, List, true, IfOk, IfErr, IfSome};
+ghost use Rattle.std.specs.Prelude.{◌≡◌, true, IfOk, IfErr, IfSome};
 ghost use Rattle.std.specs.Io.KnownBytes.{Appends};
 ghost use Rattle.mv_engine.specs.Served.{Served, EndedBy};
 ghost use Rattle.mv_checks.specs.Checks.{IsChecked, are_messages, refusals_of};

@@ -96,7 +96,7 @@ pub fn serve_strict<R: Read, W: Write>(alloc: Global, reader: &mut R, writer: &m
     // They are those of the lines that were answered, and of one more where memory was refused for its reply.
     ensures err { IfErr result.ended (λ fault. (bytes : List ℕ)
         × Consumes (R.remaining reader.old) (R.remaining reader.new) bytes × (after : Open)
-        × EndedAt IsStrictReply fault (None, None) bytes (after, result.untaken)
+        × EndedAt IsStrictReply fault (None, None) bytes (R.remaining reader.new) (after, result.untaken)
         (W.contents writer.old) (W.contents writer.new)) }
 {
     let mut counted = Counted {

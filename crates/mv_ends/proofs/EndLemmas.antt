@@ -1,5 +1,5 @@
 -- What the ends keep while their lists grow.
-use Rattle.mv_ends.proofs.Words.{◌≡◌, ◌≤◌, ◌<◌, ◌+◌, ℕ, List, [], ◌∷◌, ◌++◌, length, arith, true, append-nil, length-append, None, Err, get_or-set_same, get_or-set_other, Message, Item, Frame, IsFrameOf, routed_count, is_open, FailsBy, Refused, route_refusal_of, HubState, items_on, close_fault, nat_tests, IsLawfulRecord, stamps_suffice, record-entered, slice_get-append, cell, put-each_pair, HubEnd, IsUnchanged, Routes, IsFront, with_item, with_frame, TookAll, AreOfLinks, AreWithin}
+use Rattle.mv_ends.proofs.Words.{AreOfLinks, AreWithin, Err, FailsBy, Frame, HubEnd, HubState, IsFrameOf, IsFront, IsLawfulRecord, IsUnchanged, Item, List, Message, None, Refused, Routes, TookAll, [], append-nil, arith, cell, close_fault, get_or-set_other, get_or-set_same, is_open, items_on, length, length-append, nat_tests, put-each_pair, record-entered, route_fault, route_refusal_of, routed_count, slice_get-append, stamps_suffice, true, with_frame, with_item, ℕ, ◌++◌, ◌+◌, ◌<◌, ◌∷◌, ◌≡◌, ◌≤◌}
 use Rattle.std.specs.List.{All}
 use Rattle.std.proofs.lemmas.List.Elements.{All-push}
 use Rattle.mv_link.specs.declared.limits.TheConstants.{PARTIES_LIMIT, NUMBER_LIMIT}
@@ -8,7 +8,6 @@ use Rattle.mv_hub.specs.declared.entry.Entry.{Entry}
 use Rattle.mv_hub.specs.declared.entry.Entry.TheVariants.{Routed, Closed}
 use Rattle.mv_hub.specs.declared.fault.RouteFault.{RouteFault}
 use Rattle.mv_hub.specs.declared.fault.RouteFault.TheVariants as routing
-use Rattle.mv_hub.specs.Hub.{route_fault}
 use Rattle.mv_hub.proofs.CallerLemmas.{routed_from-append, link_items-push}
 
 -- one more entry leaves the frames of a link frames of it

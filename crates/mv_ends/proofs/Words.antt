@@ -2,13 +2,14 @@
 pub use Rattle.mv_ends.specs.HubEnd.{HubSeat, IsUnchanged, Routes, SameHubEnd, hub_seat}
 pub use Rattle.mv_ends.specs.RepoEnd.{Applies, IsRepoUnchanged, SameRepoEnd, Submits, TakesFrame, repo_seat, stands_to}
 pub use Rattle.mv_ends.specs.Rings.{IsFront, Outlet, is_full, ring_put, with_frame, with_item}
-pub use Rattle.mv_ends.specs.inside.Rings.{AreEmpty, AreLinks, Inlet, each_row, inflow_of, ring_taken, table_of}
-pub use Rattle.mv_ends.specs.inside.Valid.{AreAccepted, AreOfLinks, AreWithin, TookAll}
 pub use Rattle.mv_ends.specs.Whole.{AreEnds, IsSeatOf, sites_of, state_of}
-pub use Rattle.mv_ends.specs.inside.Whole.{IsOpened, IsOutcome}
 pub use Rattle.mv_ends.specs.declared.hub_end.HubEnd.{HubEnd}
 pub use Rattle.mv_ends.specs.declared.repo_end.RepoEnd.{RepoEnd}
+pub use Rattle.mv_ends.specs.inside.Rings.{AreEmpty, AreLinks, Inlet, each_row, inflow_of, ring_taken, table_of}
+pub use Rattle.mv_ends.specs.inside.Valid.{AreAccepted, AreOfLinks, AreWithin, TookAll}
+pub use Rattle.mv_ends.specs.inside.Whole.{IsOpened, IsOutcome}
 pub use Rattle.mv_hub.specs.Hub.{HubState, close_fault, items_on, new_hub}
+unfoldable pub use Rattle.mv_hub.specs.Hub.{route_fault}
 pub use Rattle.mv_hub.specs.Record.{is_open, routed_count}
 pub use Rattle.mv_link.proofs.CallerLemmas.{accepted_front, one_more}
 pub use Rattle.mv_link.specs.Fault.{FailsBy}
@@ -31,8 +32,8 @@ pub use Rattle.mv_party.specs.declared.taken.Taken.{Taken}
 pub use Rattle.mv_repository.specs.Repository.{items_from}
 pub use Rattle.rtrb.specs.Ring.{IsPair, SameConsumer, SameProducer, consumer_capacity, producer_capacity, received, sent}
 pub use Rattle.std.proofs.Common.{All, Err, IsTrue, List, None, Option, [], ap, append-nil, arith, drop, eqb, false, get_or, inl, inr, length, length-append, ltb-true, map, option_to_list, refl, replicate, rules, set, slice_index_or, subst, suc, sym, true, vec_capacity, vec_items, zero, ℕ, ◌++◌, ◌+◌, ◌<◌, ◌∙◌, ◌∷◌, ◌≡◌, ◌≤◌}
-pub use Rattle.std.proofs.lemmas.Bool.Decides.{nat_tests}
 pub use Rattle.std.proofs.lemmas.Bool.{cases_lt}
+pub use Rattle.std.proofs.lemmas.Bool.Decides.{nat_tests}
 pub use Rattle.std.proofs.lemmas.Grind.{common_steps}
 pub use Rattle.std.proofs.lemmas.List.{get_or-map, get_or-set_other, get_or-set_same, length-map, length-set, map-append, map-set}
 pub use Rattle.std.specs.declared.alloc.Global.{Global}

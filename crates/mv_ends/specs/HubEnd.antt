@@ -1,10 +1,9 @@
 -- What a contract sees of the hub's end, and what its calls leave, by their replies.
 use Rattle.std.specs.Prelude.{◌≡◌, ◌⊎◌, ℕ, ◌+◌, ◌<◌, List, length, Option, None, IsTrue}
-use Rattle.mv_ends.specs.Words.{Message, Frame, IsFrameOf, routed_count, sent_of, items_on, are_parties, relay_fault, repeat_fault, close_fault, with_routed, with_relayed, with_closed, Reply, Routed, Relayed, Repeated, Closed, Refused, Refusal, Party, UplinkEmpty, WireFull, Bounds, hub_refusal_of, route_refusal_of}
+use Rattle.mv_ends.specs.Words.{Bounds, Closed, Frame, IsFrameOf, Message, Party, Refusal, Refused, Relayed, Repeated, Reply, Routed, UplinkEmpty, WireFull, are_parties, close_fault, hub_refusal_of, items_on, relay_fault, repeat_fault, route_fault, route_refusal_of, routed_count, sent_of, with_closed, with_relayed, with_routed}
 use Rattle.mv_ends.specs.Refusals.{IsRefusedBy}
 use Rattle.mv_hub.specs.declared.fault.HubFault.{HubFault}
 use Rattle.mv_hub.specs.Targets.{reach}
-use Rattle.mv_hub.specs.Hub.{route_fault}
 use Rattle.mv_ends.specs.declared.hub_end.HubEnd.{HubEnd}
 use Rattle.mv_ends.specs.Rings.{Ring, IsEmptyFrom, IsFront, HasRoomOn, IsFullOn, with_item, with_frame}
 

@@ -1,6 +1,6 @@
 -- What a contract sees of a repository's end, and what its calls leave, by their replies.
 use Rattle.std.specs.Prelude.{◌≡◌, ℕ, ◌+◌, ◌<◌, [], ◌∷◌, ◌++◌, length, List, false, None, drop}
-use Rattle.mv_ends.specs.Words.{sent, Message, Frame, SiteState, count_from, with_submission, Reply, Submitted, Known, Asked, Refused, Party, WireEmpty, Memory, refusal_of, reply_to}
+use Rattle.mv_ends.specs.Words.{Asked, Frame, Known, Memory, Message, Party, Refused, Reply, SiteState, Submitted, WireEmpty, count_from, opened_site, refusal_of, reply_to, sent, with_submission}
 use Rattle.mv_ends.specs.Refusals.{IsRefusedBy}
 use Rattle.mv_pack.specs.declared.key.PackKey.{PackKey}
 use Rattle.mv_message.specs.declared.message.Message.TheVariants.{Query}
@@ -10,7 +10,6 @@ use Rattle.mv_link.specs.Receiving.{look_at}
 use Rattle.mv_repository.specs.declared.verdict.Local.TheVariants.{Known as KnownPack, Absent}
 use Rattle.mv_repository.specs.Verdict.{local_verdict}
 use Rattle.mv_party.specs.Calls.{ask_fault, submit_fault, apply_fault, taken_by, with_taken}
-use Rattle.mv_machine.specs.State.{opened_site}
 use Rattle.mv_ends.specs.declared.repo_end.RepoEnd.{RepoEnd}
 use Rattle.mv_ends.specs.Rings.{Ring, ring_put, is_full, IsEmptyFrom, IsFront, with_item}
 

@@ -1,11 +1,9 @@
 -- Rings, by what their two ends show of them.
 use Rattle.std.specs.Prelude.{◌≡◌, ◌==◌, ◌<◌, ℕ, List, [], ◌∷◌, ◌++◌, Bool, length, slice_index_or, slice_set}
-use Rattle.mv_ends.specs.Words.{IsPrefix, Global, known_free, producer_capacity, cell, put, Frame}
-use denote.RawPtr.{Ptr}
+use Rattle.mv_ends.specs.Words.{AnyItems, Frame, Global, IsPrefix, Ptr, cell, known_free, producer_capacity, put}
 use Rattle.rtrb.specs.declared.producer.Producer.{Producer}
-use Rattle.rtrb.specs.declared.AnyItems.{AnyItems}
 
--- the end of a ring that is put on, and the one that is taken from
+-- the end of a ring that is put on
 abbrev pub Outlet : Type 0 → Type 0
 Outlet T = Producer T Global AnyItems
 
@@ -21,7 +19,7 @@ pub record Ring : Type 0 where
 abbrev pub ring_put : {T : Type 0} → Outlet T → Ring
 ring_put end = record { words = end.end.words; slots = end.end.slots; names = end.end.names; heap = end.end.heap; size = producer_capacity end }
 
--- the ring was full when it was last looked at
+-- no room is known to be on the ring
 abbrev pub is_full : {T : Type 0} → Outlet T → Bool
 is_full end = known_free end == 0
 
@@ -44,7 +42,7 @@ abbrev pub with_item : {A : Type 0} → List (List A) → ℕ → A → List (Li
 with_item lists place item = slice_set lists place (slice_index_or lists place [] ++ item ∷ [])
 
 module _ {T : Type 0} where
-  -- the ring from a party was empty when it was last looked at
+  -- nothing is known to wait on the ring from a party
   abbrev pub IsEmptyFrom : Inflow T → ℕ → Type 0
   IsEmptyFrom inlets from = (absent : List T) → length (slice_index_or inlets.known from absent) ≡ 0
 
@@ -56,7 +54,7 @@ module _ {T : Type 0} where
 abbrev pub HasRoomOn : WireTable → ℕ → ℕ → Type 0
 HasRoomOn wires from to = 0 < cell wires.free to from 0
 
--- the ring of a link was full when it was last looked at
+-- no room is known to be on the ring of a link
 abbrev pub IsFullOn : WireTable → ℕ → ℕ → Type 0
 IsFullOn wires from to = (absent : ℕ) → cell wires.free to from absent ≡ 0
 

@@ -1,7 +1,6 @@
 -- All ends of one opening, and what they are as the lists of the list machine.
 use Rattle.std.specs.Prelude.{◌≡◌, ℕ, ◌<◌, List, length, map, slice_index_or}
-use Rattle.mv_ends.specs.Words.{All, new_site, SiteState}
-use Rattle.mv_machine.specs.State.{State, opening}
+use Rattle.mv_ends.specs.Words.{All, SiteState, State, new_site, opening}
 use Rattle.mv_ends.specs.declared.hub_end.HubEnd.{HubEnd}
 use Rattle.mv_ends.specs.declared.repo_end.RepoEnd.{RepoEnd}
 use Rattle.mv_ends.specs.Rings.{Ring}

@@ -1,4 +1,4 @@
--- What only invariants, private functions and proofs name.
+-- What no clause of a public call names: it is for views, invariants and other ghost members, private functions and proofs.
 pub mod Valid
 pub mod Rings
 pub mod Whole

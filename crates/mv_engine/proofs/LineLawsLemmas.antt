@@ -1,6 +1,5 @@
 -- The laws of the pieces of an input, and of its lines.
-use Rattle.mv_engine.proofs.Words.{◌≡◌, ◌+◌, ℕ, suc, map, List, [], ◌∷◌, ◌++◌, refl, sym, arith, append_assoc, append-nil, inl, inr, All, cases_eq, eq-eqb, ne_eqb, nat_tests, common_steps, map-append, strip_last, Line, line_at, whole_from, rest_from, unless_empty, pieces, lines_from, lines_of, IsUnended, text_lines}
-use Rattle.std.proofs.lemmas.List.Elements.{All-nil, All-cons, All-append}
+use Rattle.mv_engine.proofs.Words.{All, All-append, All-cons, All-nil, IsUnended, Line, List, [], append-nil, append_assoc, arith, cases_eq, common_steps, eq-eqb, inl, inr, line_at, lines_from, lines_of, map, map-append, nat_tests, ne_eqb, pieces, refl, rest_from, strip_last, suc, sym, text_lines, unless_empty, whole_from, ℕ, ◌++◌, ◌+◌, ◌∷◌, ◌≡◌}
 use Rattle.mv_engine.proofs.InputLemmas.{whole_from-append, rest_from-append, lines_from-append}
 use Rattle.mv_engine.proofs.PartLemmas.{unended_nil, unended_whole, unended_rest}
 

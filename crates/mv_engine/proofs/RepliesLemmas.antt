@@ -1,6 +1,5 @@
 -- Lemmas on replies to lines that come in parts.
-use Rattle.std.proofs.lemmas.List.Elements.{filter_map-append}
-use Rattle.mv_engine.proofs.Words.{◌≡◌, ℕ, ◌+◌, List, [], ◌∷◌, ◌++◌, ◌≢◌, refl, ap, length, inl, inr, map, take, take_at, sym, subst, append-nil, append_assoc, arith, Bool, true, false, Option, Some, None, nat_tests, flat_map-append, strip_last, Line, KeepLimits, line_at, unless_empty, AreReplies, IsReplies, said, GotNoReply, AreAnswered, TookAtMostOne}
+use Rattle.mv_engine.proofs.Words.{AreAnswered, AreReplies, Bool, GotNoReply, IsReplies, KeepLimits, Line, List, None, Option, Some, TookAtMostOne, [], ap, append-nil, append_assoc, arith, false, filter_map-append, flat_map-append, inl, inr, length, line_at, map, nat_tests, refl, said, strip_last, subst, sym, take, take_at, true, unless_empty, ℕ, ◌++◌, ◌+◌, ◌∷◌, ◌≡◌, ◌≢◌}
 
 -- a line that isn't empty is the one of its piece
 one_line : (number : ℕ) (line : List ℕ) → line ≢ [] → map (line_at number) (unless_empty line) ++ [] ≡ line_at number line ∷ []

@@ -1,5 +1,5 @@
 -- Lemmas on what a run over lines has written.
-use Rattle.mv_engine.proofs.Words.{◌≡◌, ℕ, ◌<◌, ◌≤◌, List, [], ◌++◌, length, sym, ◌∙◌, ap, arith, append_assoc, append-nil, length-append, take, subst, Option, Result, OnOk, IfErr, common_steps, nat_tests, Appends, Consumes, Appends-trans, Consumes-trans, ServeFault, Read, Write, Start, whole_from, rest_from, pieces, unless_empty, Line, line_limit, lines_limit, WrotePart, AreAnswered, TookAtMostOne, StoppedAt, WroteAt, Served, EndedAt, Taken, Halted}
+use Rattle.mv_engine.proofs.Words.{◌≡◌, ℕ, ◌<◌, ◌≤◌, List, [], ◌++◌, length, sym, ◌∙◌, ap, arith, append_assoc, append-nil, length-append, take, subst, Option, Result, OnOk, IfErr, common_steps, nat_tests, Appends, Consumes, Appends-trans, Consumes-trans, ServeFault, Read, Write, Start, whole_from, pieces, unless_empty, Line, line_limit, lines_limit, WrotePart, AreAnswered, TookAtMostOne, StoppedAt, WroteAt, Served, EndedAt, AreWhole, IsAtEnd, Taken, Halted, inl, inr, refl}
 use Rattle.mv_engine.proofs.InputLemmas.{whole_from-append, answered_more, stopped_later}
 use Rattle.mv_engine.proofs.RepliesLemmas.{took_later}
 
@@ -9,10 +9,10 @@ read_none a b c xs block n p q e = subst (λ l. Consumes a c l) (append-nil xs) 
 
 module _ {S : Type 0} (Reply : S → Line → Option (List ℕ) → S → Type 0) where
   -- a read failed, and the bytes before it are taken
-  pub unread_at : (before between : S) (bytes begun' out : List ℕ) (count' : ℕ) (old new : Option (List ℕ)) → Appends old new out
+  pub unread_at : (before between : S) (bytes begun' out : List ℕ) (count' : ℕ) (rest old new : Option (List ℕ)) → Appends old new out
       → Taken Reply [] 0 before bytes begun' count' between out
-      → count' ≤ lines_limit → (0 < length begun' → count' < lines_limit) → length begun' ≤ line_limit → EndedAt Reply Read before bytes between old new
-  unread_at before between bytes begun' out count' old new written taken few behind short = grind (arith, nat_tests, common_steps)
+      → count' ≤ lines_limit → (0 < length begun' → count' < lines_limit) → length begun' ≤ line_limit → EndedAt Reply Read before bytes rest between old new
+  unread_at before between bytes begun' out count' rest old new written taken few behind short = grind (arith, nat_tests, common_steps)
 
   -- the write of the replies failed to the lines that `ps` are
   pub broken : {A : Type 0} (came : Result A ServeFault) (kept ready begun bytes : List ℕ) (ps : List (List ℕ)) (count : ℕ) (before after : S) (old new : Option (List ℕ))
@@ -38,31 +38,36 @@ module _ {S : Type 0} (Reply : S → Line → Option (List ℕ) → S → Type 0
   }
 
   -- the taking of a later part of the input ended, or the writing of the replies to what stands there, and so the run
-  pub halted_later : (fault : ServeFault) (before between after : S) (front back : List ℕ) (begun' out : List ℕ) (count' : ℕ) (ps more : List (List ℕ))
-      (a b c : Option (List ℕ)) → Appends a b out → Taken Reply [] 0 before front begun' count' between out
-      → pieces (front ++ back) ≡ (whole_from [] front ++ ps) ++ more → Halted Reply fault begun' count' between back ps after b c
-      → EndedAt Reply fault before (front ++ back) after a c
-  halted_later Read before between after front back begun' out count' ps more a b c written taken are (other, went, stopped) = absurd stopped.why
-  halted_later Start before between after front back begun' out count' ps more a b c written taken are (other, went, stopped) = absurd stopped.why
-  halted_later Write before between after front back begun' out count' ps more a b c written taken are broken = search wrote_later
-  halted_later fault before between after front back begun' out count' ps more a b c written taken are (other, went, stopped) =
-      (out ++ other, Appends-trans a b c out other written went, stopped_later Reply fault [] more (ap (λ l. front ++ l) (sym (append-nil back))) are taken stopped)
+  pub halted_later : (fault : ServeFault) (before between after : S) (front back : List ℕ) (begun' out : List ℕ) (count' : ℕ) (ps all : List (List ℕ))
+      (a b c rest : Option (List ℕ)) → Appends a b out → Taken Reply [] 0 before front begun' count' between out
+      → all ≡ (whole_from [] front ++ ps) ++ [] → AreWhole rest (front ++ back) all → Halted Reply fault begun' count' between back ps after b c
+      → EndedAt Reply fault before (front ++ back) rest after a c
+  halted_later Read before between after front back begun' out count' ps all a b c rest written taken are whole (other, went, stopped) = absurd stopped.why
+  halted_later Start before between after front back begun' out count' ps all a b c rest written taken are whole (other, went, stopped) = absurd stopped.why
+  halted_later Write before between after front back begun' out count' ps all a b c rest written taken are whole broken =
+      (all, whole, wrote_later before between after front begun' out count' ps [] all a b c written taken are broken)
+  halted_later fault before between after front back begun' out count' ps all a b c rest written taken are whole (other, went, stopped) = (
+    all,
+    whole,
+    (out ++ other, Appends-trans a b c out other written went, stopped_later Reply fault [] [] (ap (λ l. front ++ l) (sym (append-nil back))) are taken stopped),
+  )
 
   -- that of a block
-  pub halted_block : (fault : ServeFault) (before between after : S) (front back begun' out : List ℕ) (count' : ℕ) (a b c : Option (List ℕ)) → Appends a b out
+  pub halted_block : (fault : ServeFault) (before between after : S) (front back begun' out : List ℕ) (count' : ℕ) (a b c rest : Option (List ℕ)) → Appends a b out
       → Taken Reply [] 0 before front begun' count' between out → Halted Reply fault begun' count' between back (whole_from begun' back) after b c
-      → EndedAt Reply fault before (front ++ back) after a c
-  halted_block fault before between after front back begun' out count' a b c written taken halted =
-      halted_later fault before between after front back begun' out count' (whole_from begun' back) _ a b c written taken
-      (ap (λ l. l ++ unless_empty (rest_from [] (front ++ back))) (rw taken.rest (whole_from-append [] front back))) halted
+      → EndedAt Reply fault before (front ++ back) rest after a c
+  halted_block fault before between after front back begun' out count' a b c rest written taken halted =
+      halted_later fault before between after front back begun' out count' (whole_from begun' back) (whole_from [] (front ++ back)) a b c rest written taken
+      (rw taken.rest (whole_from-append [] front back ∙ sym (append-nil _))) (inl refl) halted
 
   -- that of the last line
-  pub halted_last : (fault : ServeFault) (before between after : S) (bytes begun' out : List ℕ) (count' : ℕ) (a b c : Option (List ℕ)) → Appends a b out
-      → Taken Reply [] 0 before bytes begun' count' between out → Halted Reply fault begun' count' between [] (unless_empty begun') after b c
-      → EndedAt Reply fault before bytes after a c
-  halted_last fault before between after bytes begun' out count' a b c written taken halted =
-      subst (λ l. EndedAt Reply fault before l after a c) (append-nil bytes) (halted_later fault before between after bytes [] begun' out count' (unless_empty begun') [] a b c written taken
-      (ap pieces (append-nil bytes) ∙ rw (← taken.rest) (sym (append-nil _))) halted)
+  pub halted_last : (fault : ServeFault) (before between after : S) (bytes begun' out : List ℕ) (count' : ℕ) (a b c rest : Option (List ℕ)) → Appends a b out
+      → Taken Reply [] 0 before bytes begun' count' between out → IsAtEnd rest
+      → Halted Reply fault begun' count' between [] (unless_empty begun') after b c → EndedAt Reply fault before bytes rest after a c
+  halted_last fault before between after bytes begun' out count' a b c rest written taken at_end halted =
+      subst (λ l. EndedAt Reply fault before l rest after a c) (append-nil bytes)
+      (halted_later fault before between after bytes [] begun' out count' (unless_empty begun') (pieces (bytes ++ [])) a b c rest written taken
+      (ap pieces (append-nil bytes) ∙ rw (← taken.rest) (sym (append-nil _))) (inr (refl, at_end)) halted)
 
   -- the last line is answered, and so the input
   pub served_whole : (before between after : S) (bytes begun' out other : List ℕ) (count' : ℕ) (a b c : Option (List ℕ)) → Appends a b out

@@ -27,7 +27,7 @@ pub fn answer_lines<S: Answering, R: Read, W: Write>(
     // And so what answers is left behind the lines that were answered.
     ensures ended { IfErr result (λ fault. (bytes : List ℕ)
         × Consumes (R.remaining reader.old) (R.remaining reader.new) bytes
-        × EndedAt S.replies fault answering.old bytes answering.new
+        × EndedAt S.replies fault answering.old bytes (R.remaining reader.new) answering.new
         (W.contents writer.old) (W.contents writer.new)) }
 {
     let mut input = Input::new(alloc);

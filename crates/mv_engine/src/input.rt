@@ -4,9 +4,8 @@ ghost use Rattle.std.specs.Prelude.{◌≡◌, ◌+◌, ◌<◌, ◌≤◌, [], 
 ghost use Rattle.std.specs.Io.BufRead.{strip_last};
 ghost use Rattle.mv_engine.specs.Lines.{IsUnended, unless_empty, line_limit, lines_limit, whole_from};
 ghost use Rattle.mv_engine.specs.Replies.{Readied};
-ghost use Rattle.mv_engine.specs.Served.{AreAnswered, TookAtMostOne, Wrote, StoppedAt};
-ghost use Rattle.mv_engine.specs.inside.Served.{StopsIn};
-ghost use Rattle.mv_engine.specs.inside.Taking.{Taken, Halted};
+ghost use Rattle.mv_engine.specs.Served.{AreAnswered, Halted, TookAtMostOne, Wrote, StoppedAt};
+ghost use Rattle.mv_engine.specs.inside.Taking.{StopsIn, Taken};
 
 use crate::limits::{LINE_LIMIT, LINES_LIMIT};
 use crate::{Answering, ServeFault, put_out};

@@ -21,7 +21,7 @@ pub(crate) const ROWS: [&str; 60] = [
     // Why a line, or the message in it, is refused.
     "M1 The line is no JSON: write each object on one line, in UTF-8 without a byte order mark, \
      and look for a comma too many or a quote that is missing.",
-    "M2 The line is JSON, but no object: write one object on each line.",
+    "M2 The line, or the message in it, is JSON, but no object: write one object on each line.",
     "M3 A field is missing: write the field that the reply names.",
     "M4 The line or its message does not have such a field: take out the field that the reply \
      names; a national number has to come with \"v\":2.",
@@ -61,10 +61,10 @@ pub(crate) const ROWS: [&str; 60] = [
      it: relay that link, then route again.",
     "S7 The wire is full: apply or lose its front frame first.",
     "S8 The wire is empty: relay or repeat a frame, or go on where carrying has come to its end.",
-    "S9 No frame of that number was relayed yet: relay it first.",
-    "S10 The frame is no longer kept, since more than a window of items were put on the link after \
-     it: correct the file before the loss, or open with a greater window, and run again from the \
-     first line.",
+    "S9 No frame of that number was relayed yet: look whether the number is right, or relay it first.",
+    "S10 The frame is no longer kept, since as many items as the window holds were put on the link \
+     after it: correct the file before the loss, or open with a greater window, and run again from \
+     the first line.",
     "S11 Every item of the link was relayed: go on, since what was lost on the way comes again by \
      repeat.",
     "S12 The link is closed already: go on, since there is nothing to do.",
@@ -89,8 +89,8 @@ pub(crate) const ROWS: [&str; 60] = [
     "E10 The batch of the pack to be reverted is recalled: keep the pack out of supply.",
     "E11 The message is noted in the log with no other change, as a receipt, a repack, a query, an \
      answer, or a second recall or withdrawal: there is nothing to do.",
-    "E12 The upload is noted, with the packs that are new and those that an earlier upload named: \
-     look whether many old ones are a second upload by mistake.",
+    "E12 The upload is noted, with the packs that are new and those that were named before: look \
+     whether many old ones are a second upload by mistake.",
     "E13 The product of the pack to be reverted is withdrawn: keep the pack out of supply.",
     // Why a run ended before its input did.
     "V1 The input could not be read, or 1,000 reads of the run were interrupted: mend the source, \

@@ -1,7 +1,5 @@
 -- Lemmas on lists of values, and on the lists of markets that they are.
-use Rattle.mv_format.proofs.Words.{◌≡◌, ℕ, Bool, List, [], ◌∷◌, refl, arith, cond, is_some, option_and_then, option_map, Option, Some, Result, Ok, Err, Data, Items, LineFault, LineField, Market, Pack, as_str, item, items_view, list_all, market_item, market_list, market_lists_at, nat_tests, no_items, read_all, read_market, view, walked_lists_at}
-use Rattle.mv_json.specs.Reading.{each_of, as_list, ◌and_then◌}
-use Rattle.mv_json.proofs.ReadingLemmas.{all_some}
+use Rattle.mv_format.proofs.Words.{Bool, Data, Err, Items, LineFault, LineField, List, Market, Ok, Option, Pack, Result, Some, [], all_some, arith, as_list, as_str, cond, each_of, is_some, item, items_view, list_all, market_item, market_list, market_lists_at, nat_tests, no_items, option_and_then, option_map, read_all, read_market, refl, view, walked_lists_at, ℕ, ◌and_then◌, ◌∷◌, ◌≡◌}
 use Rattle.std.specs.Result.{is_ok}
 use Rattle.serde_json.specs.declared.value.Value.{Value}
 

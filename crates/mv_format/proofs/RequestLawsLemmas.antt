@@ -1,7 +1,5 @@
 -- The laws of the line that asks a request: it is read as that request, and what any line asks is legal.
-use Rattle.mv_format.proofs.Words.{◌≡◌, ◌<◌, ℕ, ◌^◌, List, [], ◌∷◌, map, refl, subst, arith, true, lt-ltb, Bool, ok_or, Option, Some, option_and_then, Result, Ok, Err, IfOk, AllByRecursion, Asking, Data, IsMarket, Kind, LineFault, LineField, LineKind, Open, Request, Step, Unknown, array, as_number, as_str, as_u64, asked_at, items_of, kind_at, list_all, market_lists_at, member_at, message_at, nat_tests, number_at, of_32_bits, read_at, read_is_legal, read_request, reads_back, request_at, shape_of, string, strings}
-use Rattle.mv_json.specs.Reading.{map_err, each_of, as_list, ◌and_then◌}
-use Rattle.mv_json.proofs.ReadingLemmas.{each_back}
+use Rattle.mv_format.proofs.Words.{AllByRecursion, Asking, Bool, Data, Err, IfOk, IsMarket, Kind, LineFault, LineField, LineKind, List, Ok, Open, Option, Request, Result, Some, Step, Unknown, [], arith, array, as_list, as_number, as_str, as_u64, asked_at, each_back, each_of, items_of, kind_at, list_all, lt-ltb, map, map_err, market_lists_at, member_at, message_at, nat_tests, number_at, of_32_bits, ok_or, option_and_then, read_at, read_is_legal, read_request, reads_back, refl, request_at, shape_of, string, strings, subst, true, ℕ, ◌<◌, ◌^◌, ◌and_then◌, ◌∷◌, ◌≡◌}
 use Rattle.std.specs.Option.{option_map_or}
 use Rattle.std.proofs.lemmas.Bool.{and_parts}
 use Rattle.mv_pack.proofs.CodeLemmas.{read_code_of, read_code_is_code}

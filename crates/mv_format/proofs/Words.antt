@@ -1,22 +1,27 @@
 -- The names of the library, of the definitions, and of the crates below that the proofs cite, passed on from one place. Declares nothing.
-pub use Rattle.mv_format.specs.Words.{AllByRecursion, Character, IsMarket, LineFault, LineField, LineKind, Market, Open, Request, Step, items_of, items_view, list_all, read_market, strings, view, whole}
+pub use Rattle.json.specs.Lex.{tokens}
 pub use Rattle.json.specs.Token.{Token, begin_array, begin_object, end_array, end_object, key}
 pub use Rattle.mv_format.specs.Fields.{field_name}
 pub use Rattle.mv_format.specs.Kinds.{Asking, names_of, shape_of}
 unfoldable pub use Rattle.mv_format.specs.Kinds.{kind_at}
-pub use Rattle.mv_format.specs.inside.MarketLists.{market_item, market_list, read_all, with_front}
-unfoldable pub use Rattle.mv_format.specs.inside.MarketLists.{walked_lists_at}
 pub use Rattle.mv_format.specs.Reading.{member_at, of_32_bits}
 unfoldable pub use Rattle.mv_format.specs.Reading.{market_lists_at, message_at, number_at, read_at}
 pub use Rattle.mv_format.specs.Requests.{asked_at, read_line}
 unfoldable pub use Rattle.mv_format.specs.Requests.{read_request, request_at}
+pub use Rattle.mv_format.specs.Words.{AllByRecursion, Character, IsMarket, LineFault, LineField, LineKind, Market, Open, Request, Step, items_of, items_view, list_all, read_market, strings, view, whole}
 pub use Rattle.mv_format.specs.Writing.{entry_of, members_of, members_where}
-pub use Rattle.mv_format.specs.inside.Writing.{entry_tokens, member_tokens}
 unfoldable pub use Rattle.mv_format.specs.Writing.{tokens_of}
 pub use Rattle.mv_format.specs.declared.line_fault.LineFault.TheVariants.{Kind, Pack, Unknown}
+pub use Rattle.mv_format.specs.inside.LineParts.{market_item, market_list, read_all, with_front}
+unfoldable pub use Rattle.mv_format.specs.inside.LineParts.{walked_lists_at}
+pub use Rattle.mv_format.specs.inside.Writing.{entry_tokens, member_tokens}
+pub use Rattle.mv_json.proofs.MetLemmas.{AreMet, all_met, begun_shorter, converted_some, known_only, none_met, one_more_met, stands, text_begins, whole_begins}
+pub use Rattle.mv_json.proofs.ReadingLemmas.{all_some, each_back}
 pub use Rattle.mv_json.proofs.ReadsLemmas.{none_unknown, read_is_legal, reads_back}
 pub use Rattle.mv_json.specs.Members.{keys_of}
+pub use Rattle.mv_json.specs.Reading.{as_list, each_of, map_err, ◌and_then◌}
 pub use Rattle.serde_json.specs.Data.{Data, Items, Members, array, item, no_items, object, string, unsigned}
 pub use Rattle.serde_json.specs.Find.{as_number, as_object, as_str, as_u64, get}
 pub use Rattle.std.proofs.Common.{All, Bool, Contains, Err, IfOk, IsUtf8, List, None, Ok, OnOk, Option, Result, Some, [], ap, append_assoc, arith, cond, drop, flat_map, is_some, length, lt-ltb, map, ok_or, option_and_then, option_map, refl, rules, subst, take, take_all, true, ℕ, ◌++◌, ◌<◌, ◌^◌, ◌∙◌, ◌∷◌, ◌≡◌, ◌≢◌, ◌≤◌}
 pub use Rattle.std.proofs.lemmas.Bool.Decides.{nat_tests}
+pub use Rattle.std.proofs.lemmas.Grind.{common_steps}

@@ -1,10 +1,9 @@
 -- The kinds of lines, by the text of their field `do`, and what the fields of each ask.
 use Rattle.std.specs.Prelude.{ℕ, List, [], ◌∷◌, map, codes, bytes_eq, find, Option, option_map, Result, ok_or}
-use Rattle.mv_format.specs.Words.{Data, Kind, LineFault, LineField, LineKind, Open, Request, Step}
+use Rattle.mv_format.specs.Words.{Data, Kind, LineFault, LineField, LineKind, Open, Request, Step, ◌and_then◌}
 use Rattle.mv_pack.specs.Keys.{pack_key}
 use Rattle.mv_format.specs.Fields.{field_name}
 use Rattle.mv_format.specs.Meanings.{meaning_of}
-use Rattle.mv_json.specs.Reading.{◌and_then◌}
 use Rattle.mv_format.specs.Reading.{text_at}
 use Rattle.mv_machine.specs.declared.step.Step.TheVariants as steps
 use Rattle.mv_format.specs.declared.field.LineField.TheVariants as fields

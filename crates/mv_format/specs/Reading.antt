@@ -1,8 +1,6 @@
 -- What reading a field of a line gives: its meaning, or the first fault.
 use Rattle.std.specs.Prelude.{◌^◌, ℕ, nat_lt, if◌then◌else◌, is_ok, List, Option, Some, None, option_and_then, Result, Ok, Err, ok_or}
-use Rattle.mv_format.specs.Words.{Data, LineFault, LineField, Market, Message, PackFault, as_str, get, list_all, read_market, read_message}
-use Rattle.mv_json.specs.Reading.{whole_number, map_err, as_list, ◌and_then◌}
-use Rattle.mv_format.specs.declared.line_fault.LineFault.TheVariants.{Missing, Kind, Pack, Message as InMessage}
+use Rattle.mv_format.specs.Words.{Data, InMessage, Kind, LineFault, LineField, Market, Message, Missing, Pack, PackFault, as_list, as_str, get, list_all, map_err, read_market, read_message, whole_number, ◌and_then◌}
 use Rattle.mv_format.specs.Fields.{field_name}
 use Rattle.mv_format.specs.declared.field.LineField.TheVariants as fields
 

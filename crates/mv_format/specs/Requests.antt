@@ -1,7 +1,6 @@
 -- What a line asks, or its first fault.
 use Rattle.std.specs.Prelude.{ℕ, List, [], ◌∷◌, Result, Ok, Err, ok_or}
-use Rattle.mv_format.specs.Words.{Data, LineFault, LineField, LineKind, NotJson, NotObject, Request, Unknown, as_object, first_unknown, json_value, option_map_or}
-use Rattle.mv_json.specs.Reading.{◌and_then◌}
+use Rattle.mv_format.specs.Words.{Data, LineFault, LineField, LineKind, NotJson, NotObject, Request, Unknown, as_object, first_unknown, json_value, option_map_or, ◌and_then◌}
 use Rattle.mv_format.specs.Kinds.{Asking, shape_of, names_of, kind_at}
 use Rattle.mv_format.specs.Meanings.{meaning_of}
 

@@ -3,12 +3,13 @@ pub use Rattle.json.specs.Token.{Token, begin_object, end_object, key}
 pub use Rattle.mv_format.specs.declared.field.LineField.{LineField}
 pub use Rattle.mv_format.specs.declared.kind.LineKind.{LineKind}
 pub use Rattle.mv_format.specs.declared.line_fault.LineFault.{LineFault}
-pub use Rattle.mv_format.specs.declared.line_fault.LineFault.TheVariants.{Kind, Memory, NotJson, NotObject, Pack, Unknown}
+pub use Rattle.mv_format.specs.declared.line_fault.LineFault.TheVariants.{Kind, Memory, Message as InMessage, Missing, NotJson, NotObject, Pack, Unknown}
+pub use Rattle.mv_format.specs.declared.members.Member.{Member}
 pub use Rattle.mv_format.specs.declared.request.Request.{Request}
 pub use Rattle.mv_format.specs.declared.request.Request.TheVariants.{Open, Step}
 pub use Rattle.mv_json.specs.Members.{first_unknown}
 pub use Rattle.mv_json.specs.Messages.{json_value, read_message, value_of}
-pub use Rattle.mv_json.specs.Reading.{GivesOr, as_list, whole_number}
+pub use Rattle.mv_json.specs.Reading.{GivesOr, as_list, each_of, map_err, whole_number, ◌and_then◌}
 pub use Rattle.mv_json.specs.Values.{members_with, strings, whole}
 pub use Rattle.mv_json.specs.declared.fault.MessageFault.{MessageFault}
 pub use Rattle.mv_machine.specs.declared.reply.Reply.{Reply}

@@ -1,6 +1,6 @@
 -- What is written of a reply's object.
 use Rattle.std.specs.Prelude.{◌≡◌, ℕ, List, [], ◌∷◌, ◌++◌, codes, map, IfOk, Option, Some, None, option_map, Result, MatchResult}
-use Rattle.mv_format.specs.Words.{Data, Members, Token, array, boolean, key, member, no_members, null, option_map_or, string, value_of, whole}
+use Rattle.mv_format.specs.Words.{Data, Member, Members, Token, array, boolean, member, no_members, null, option_map_or, string, value_of, whole}
 use Rattle.json.specs.Tree.{json_tokens}
 use Rattle.json.specs.Written.{Written}
 use Rattle.serde_json.specs.Written.{outline, compact_text}
@@ -8,7 +8,6 @@ use Rattle.mv_repository.specs.declared.held.Change.{Change}
 use Rattle.mv_format.specs.Meanings.{markets_value}
 use Rattle.mv_format.specs.Objects.{object_of}
 use Rattle.mv_format.specs.ReplyLines.{wholes}
-use Rattle.mv_format.specs.declared.members.Member.{Member}
 use Rattle.mv_format.specs.declared.members.Member.TheVariants as members
 
 -- a national number; null where there is none

@@ -1,7 +1,7 @@
 //! The fields of a line as they are met, in any order, and what stands in each; and the object that they are of.
 
 ghost use Rattle.std.specs.Prelude.{◌≡◌, ◌≢◌, ◌∷◌, ◌++◌, [], All, IsTrue, IfSome};
-ghost use Rattle.mv_json.specs.inside.Met.{IsOneOf};
+ghost use Rattle.mv_json.specs.inside.Parts.{IsOneOf};
 ghost use Rattle.mv_format.specs.inside.LineParts.{TellsPart, entry};
 
 use crate::LineField;
@@ -95,7 +95,7 @@ pub(crate) fn are_among(entries: &[LineEntry<'_>], fields: &[LineField]) -> bool
 }
 
 /// Whether a field is one of these.
-#[tactic(auto, unfolding(mv_json::specs::inside::Met::IsOneOf))]
+#[tactic(auto, unfolding(mv_json::specs::inside::Parts::IsOneOf))]
 fn is_one_of(field: LineField, fields: &[LineField]) -> bool
     ensures { IsTrue result → IsOneOf fields.now field }
 {

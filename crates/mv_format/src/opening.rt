@@ -1,6 +1,6 @@
 //! What a line that opens gives: the parties and the limits.
 
-ghost use Rattle.std.specs.Prelude.{◌≡◌};
+ghost use Rattle.std.specs.Prelude.{◌≡◌, IfErr, IsOk};
 ghost use Rattle.mv_hub.specs.Parties.{parties_of};
 ghost use Rattle.mv_machine.specs.Limits.{limits_of};
 ghost use Rattle.mv_json.specs.Reading.{GivesOr, map_err};
@@ -12,7 +12,9 @@ use std::alloc::Global;
 
 /// The parties of lists of markets: H1 to H3.
 pub fn parties_of(alloc: Global, lists: MarketLists) -> Result<Parties, OpenFault>
-    ensures { GivesOr result (map_err OpenFault.Parties (parties_of lists)) OpenFault.Memory }
+    ensures gives { GivesOr result (map_err OpenFault.Parties (parties_of lists)) OpenFault.Memory }
+    // Memory is asked for once they are known to be parties.
+    ensures memory { IfErr result (λ fault. fault ≡ OpenFault.Memory → IsOk (parties_of lists)) }
 {
     match Parties::new(alloc, lists.into_lists()) {
         Ok(parties) => Ok(parties),

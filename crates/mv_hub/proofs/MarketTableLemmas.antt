@@ -1,6 +1,5 @@
 -- The table of the party of each market.
-use Rattle.std.proofs.lemmas.Grind.{common_steps}
-use Rattle.mv_hub.proofs.Words.{◌≡◌, ◌≢◌, ℕ, zero, suc, ◌+◌, ◌-◌, ◌<◌, true, false, ◌||◌, ◌&&◌, List, [], ◌∷◌, ◌++◌, length, get_or, set, take, drop, map, replicate, sym, refl, ◌∙◌, append_assoc, append-nil, arith, inl, inr, true≢false, ◌==◌, bytes_eq, rules, AreNoted, all_markets, cases_eq, cases_lt, eq-eqb, get_or-replicate, has_market, has_twice, length-map, length-replicate, length-take-le, list_any-append, map-append, ne_eqb, served_by, take-append-drop, take_more}
+use Rattle.mv_hub.proofs.Words.{AreNoted, List, [], all_markets, append-nil, append_assoc, arith, bytes_eq, cases_eq, cases_lt, common_steps, drop, eq-eqb, false, get_or, get_or-replicate, has_market, has_twice, inl, inr, length, length-map, length-replicate, length-take-le, list_any-append, map, map-append, ne_eqb, refl, replicate, rules, served_by, set, suc, sym, take, take-append-drop, take_more, true, true≢false, zero, ℕ, ◌&&◌, ◌++◌, ◌+◌, ◌-◌, ◌<◌, ◌==◌, ◌||◌, ◌∙◌, ◌∷◌, ◌≡◌, ◌≢◌}
 use Rattle.std.proofs.Math.ListN.{get_or-eq_default}
 use Rattle.mv_pack.specs.declared.market.TheConstants.{MARKETS_LIMIT}
 use Rattle.mv_pack.specs.Market.{IsMarket, place_of}

@@ -1,6 +1,5 @@
 -- The parties that serve markets.
-use Rattle.std.proofs.lemmas.Grind.{common_steps}
-use Rattle.mv_hub.proofs.Words.{◌≡◌, ℕ, ◌+◌, ◌<◌, true, false, ◌||◌, ◌&&◌, List, [], ◌∷◌, ◌++◌, length, take, get_or, Option, refl, arith, nat_lt, rules, has_market, is_found, list_any-append, served_by, serves_one}
+use Rattle.mv_hub.proofs.Words.{List, Option, [], arith, common_steps, false, get_or, has_market, is_found, length, list_any-append, nat_lt, refl, rules, served_by, serves_one, take, true, ℕ, ◌&&◌, ◌++◌, ◌+◌, ◌<◌, ◌||◌, ◌∷◌, ◌≡◌}
 
 -- who serves a market is a party
 pub server_is_party : (parties : List (List (List ℕ))) (party : ℕ) (market : List ℕ) → has_market (served_by parties party) market ≡ true

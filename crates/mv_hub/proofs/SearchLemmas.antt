@@ -1,6 +1,5 @@
 -- The search for the batches that chains of links lead to.
-use Rattle.std.proofs.lemmas.Grind.{elements}
-use Rattle.mv_hub.proofs.Words.{◌≡◌, ◌<◌, ◌≤◌, ◌+◌, ℕ, Bool, true, false, cond, List, [], ◌∷◌, ◌++◌, length, get_or, take, take_all, Contains, ◌↔◌, ◌⊎◌, inl, inr, subst, sym, refl, ap, ◌∙◌, arith, append_assoc, length-append, BatchKey, Contains-from_any, Contains-push_cases, Gathers, IsChain, is_same_batch, list_any, take-append-le, take_more}
+use Rattle.mv_hub.proofs.Words.{BatchKey, Bool, Contains, Contains-from_any, Contains-push_cases, Gathers, IsChain, List, [], ap, append_assoc, arith, cond, elements, false, get_or, inl, inr, is_same_batch, length, length-append, list_any, refl, subst, sym, take, take-append-le, take_all, take_more, true, ℕ, ◌++◌, ◌+◌, ◌<◌, ◌↔◌, ◌∙◌, ◌∷◌, ◌≡◌, ◌≤◌, ◌⊎◌}
 use Rattle.indexmap.specs.IndexSet.{insert_key}
 use Rattle.mv_hub.proofs.ListingLemmas.{batch-same}
 

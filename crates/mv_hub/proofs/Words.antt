@@ -1,19 +1,18 @@
 -- The names of the library, of the definitions, and of the crates below that the proofs cite, passed on from one place. Declares nothing.
-pub use Rattle.mv_hub.specs.Words.{BatchKey, Closed, Entry, HasRoom, IsSquare, Item, Message, Routed, Sending, cell, has_party, is_same_batch, new_sending, parties_in, pointwise, put}
-pub use Rattle.mv_hub.specs.BatchLinks.{IsAscendingList, IsChain, batch_cmp, link_in}
+pub use Rattle.mv_hub.specs.BatchLinks.{IsAscendingList, IsChain, IsDescendant, batch_cmp, link_in}
 unfoldable pub use Rattle.mv_hub.specs.BatchLinks.{linked_to}
 pub use Rattle.mv_hub.specs.Hub.{HubState, items_on, new_hub, next_items, sent_of, with_relayed}
 unfoldable pub use Rattle.mv_hub.specs.Hub.{busy_party, is_busy}
-pub use Rattle.mv_hub.specs.inside.Kept.{AreTables, Carries, IsKept, IsRouting, PushesItems, PushesRow, carried_by, gain_of, link_at, receipt_to, sent_table}
 pub use Rattle.mv_hub.specs.Links.{link_items_after}
 unfoldable pub use Rattle.mv_hub.specs.Links.{gained, link_items}
 pub use Rattle.mv_hub.specs.Listing.{Listing, distinct, is_same_listing}
 pub use Rattle.mv_hub.specs.Parties.{all_markets, has_market, has_twice, served_by, serves_one}
 pub use Rattle.mv_hub.specs.Record.{is_open, product_in, routed_count, routed_from}
 unfoldable pub use Rattle.mv_hub.specs.Record.{last_product}
-pub use Rattle.mv_hub.specs.inside.Tables.{AreNoted, Gathers, is_found, LinkTable, catalogue_after, catalogue_in, linked_in, listing_equiv, no_catalogue}
 pub use Rattle.mv_hub.specs.Targets.{is_query, is_target}
 unfoldable pub use Rattle.mv_hub.specs.Targets.{is_reached, reach}
+pub use Rattle.mv_hub.specs.Words.{BatchKey, Closed, Entry, HasRoom, IsSquare, Item, Message, Routed, Sending, cell, has_party, is_same_batch, new_sending, parties_in, pointwise, put}
+pub use Rattle.mv_hub.specs.inside.Kept.{AreTables, Carries, IsKept, IsRouting, PushesItems, PushesRow, carried_by, gain_of, link_at, receipt_to, sent_table, AreNoted, Gathers, LinkTable, Notes, catalogue_after, catalogue_in, is_found, linked_in, listing_equiv, no_catalogue}
 pub use Rattle.mv_link.proofs.CallerLemmas.{find-none_at, find-those, listed-in}
 pub use Rattle.mv_link.specs.declared.party_set.PartySet.{PartySet}
 pub use Rattle.mv_pairs.proofs.CallerLemmas.{cell-map, cell-put_other, cell-put_same, put-map, put-map_same, put-read, square-map, square-put, table-all}
@@ -25,7 +24,7 @@ pub use Rattle.std.proofs.lemmas.List.{get_or-replicate, get_or_default, length-
 pub use Rattle.std.proofs.lemmas.List.Elements.{Contains-push_cases, filter-append, filter_map-append}
 pub use Rattle.std.proofs.lemmas.List.Folds.{list_any-append}
 pub use Rattle.std.proofs.lemmas.Map.Views.{Contains-from_any, any-filter_same}
-pub use Rattle.std.proofs.lemmas.Result.{err_from_is_err_and}
+pub use Rattle.std.proofs.lemmas.Result.{IfOk-weaker, err_from_is_err_and, on_ok_weaker}
 pub use Rattle.std.proofs.lemmas.Slice.Eq.{bytes_eq-Decides}
 pub use Rattle.std.specs.List.{All, filter_map, last_or, list_any}
 pub use Rattle.std.specs.Option.{option_or}

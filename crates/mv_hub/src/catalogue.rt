@@ -5,7 +5,7 @@ ghost use Rattle.mv_hub.specs.Words.{lists_equiv, option_copied, option_eq, opti
 ghost use Rattle.mv_message.specs.contracts.message.ProductEq.TheImpl.Laws.{laws-law};
 ghost use Rattle.mv_hub.specs.Record.{product_of};
 ghost use Rattle.mv_hub.specs.Listing.{is_same_listing};
-ghost use Rattle.mv_hub.specs.inside.Tables.{listing_equiv};
+ghost use Rattle.mv_hub.specs.inside.Kept.{listing_equiv};
 
 use mv_message::{Message, Product, Shared};
 use mv_pack::{Batch, Expiry};

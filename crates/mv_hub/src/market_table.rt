@@ -2,7 +2,7 @@
 
 ghost use Rattle.std.specs.Prelude.{◌≡◌, ◌≤◌, ℕ, List, map, length, true, MatchOption};
 ghost use Rattle.mv_hub.specs.Parties.{has_market, has_twice, served_by, all_markets};
-ghost use Rattle.mv_hub.specs.inside.Tables.{is_found, AreNoted};
+ghost use Rattle.mv_hub.specs.inside.Kept.{is_found, AreNoted};
 
 use mv_link::PARTIES_LIMIT;
 use mv_message::Party;

@@ -26,7 +26,7 @@ pub struct Parties {
 impl Model for Parties {
     ghost use Rattle.std.specs.Prelude.{ℕ, List, length, ◌≤◌};
     ghost use Rattle.mv_link.specs.declared.limits.TheConstants.{PARTIES_LIMIT};
-    ghost use Rattle.mv_hub.specs.inside.Tables.{AreNoted};
+    ghost use Rattle.mv_hub.specs.inside.Kept.{AreNoted};
 
     ghost Value = { List (List (List ℕ)) };
 

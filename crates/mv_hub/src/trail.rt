@@ -3,8 +3,7 @@
 
 ghost use Rattle.std.specs.Prelude.{◌≡◌, ◌++◌, ◌∷◌, [], List, OnOk, OnErr};
 ghost use Rattle.mv_hub.specs.Words.{BatchKey as ABatch, Entry as AnEntry};
-ghost use Rattle.mv_hub.specs.inside.Tables.{linked_in};
-ghost use Rattle.mv_hub.specs.inside.Kept.{AreTables};
+ghost use Rattle.mv_hub.specs.inside.Kept.{linked_in, AreTables};
 
 use crate::Entry;
 use crate::trail::batch_links::add_link;

@@ -1,8 +1,7 @@
 -- A value is read as a message exactly where it is a spelling of it; what is read is legal, and the value of what is legal spells it.
-use Rattle.mv_json.proofs.Words.{◌≡◌, ◌∙◌, ℕ, true, false, not, cond, List, [], ◌∷◌, ap, subst, refl, arith, Bool, bytes_eq, Option, Some, None, Result, Ok, Err, find, Contains, is_some, rules, IfSome, Absent, AllByRecursion, AreLegal, AreSpelled, Data, Field, Found, HasOnly, IsIn, IsLegal, IsStrictlySortedBy, Making, Meaning, Members, Message, MessageFault, One, PackKey, Present, Reads, SpellsFound, Standing, Two, Unknown, Version, contents_of, field_name, fields_of, first_fault, first_unknown, form_at, form_name, form_named, form_of, found_of, found_parts, found_value, found_version, get, keys_of, list_any, made_at, making_of, meaning_of, message_at, message_version, names_in, names_of, nat_cmp, object, option_map_or, option_or, pack_found, part_of, present_at, present_fields, present_of, read_expiry_text, read_gtin_of, read_message, since_two, string, value_in, value_of, version_at, whole}
+use Rattle.mv_json.proofs.Words.{Absent, AllByRecursion, AreLegal, AreSpelled, Bool, Contains, Data, Err, Field, Found, HasOnly, IfSome, IsIn, IsLegal, IsStrictlySortedBy, List, Making, Meaning, Members, Message, MessageFault, None, Ok, One, Option, PackKey, Present, Reads, Result, Some, SpellsFound, Standing, Two, Unknown, Version, [], ap, arith, bytes_eq, cond, contents_of, false, field_at, field_name, fields_of, find, first_fault, first_unknown, form_at, form_name, form_named, form_of, found_of, found_parts, found_value, found_version, get, is_some, keys_of, list_any, made_at, making_of, meaning_of, message_at, message_version, names_in, names_of, nat_cmp, not, object, option_map_or, option_or, pack_found, part_of, present_at, present_fields, present_of, read_expiry_text, read_gtin_of, read_message, refl, rules, since_two, string, subst, true, value_in, value_of, version_at, whole, ℕ, ◌and_then◌, ◌∙◌, ◌∷◌, ◌≡◌}
 use Rattle.mv_json.proofs.OrderLemmas.{rises, strictly_sorted}
 use Rattle.mv_json.proofs.ReadingLemmas.{Has, each, made, made_ok, parts_agree, made_read, both_ok, ok_or_some, same_bytes, unrefused}
-use Rattle.mv_json.specs.Reading.{◌and_then◌, field_at}
 use Rattle.mv_json.specs.declared.form.Form.{Form}
 use Rattle.mv_pack.specs.Expiry.{CivilDate}
 use Rattle.std.proofs.lemmas.Map.Views.{Contains-from_any, list_any-from_Contains}

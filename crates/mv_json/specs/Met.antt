@@ -1,5 +1,4 @@
--- Fields of an object as they are met, one after the other, in any order; and the tokens of JSON that they are read from. What is met,
--- and what it says of the value that stands there, is left open.
+-- The tokens of JSON that a value is read from.
 use Rattle.std.specs.Prelude.{◌≡◌, ◌≤◌, ℕ, List, Some}
 use Rattle.mv_json.specs.Words.{Data, Token, converted, of_json}
 use Rattle.json.specs.Json.{value}

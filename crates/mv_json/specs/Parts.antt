@@ -1,12 +1,9 @@
--- What stands in the fields of a message, as they are met in its object; and the tokens of JSON that it is read from.
+-- The tokens of JSON that a message is read from.
 use Rattle.std.specs.Prelude.{◌≡◌, List, Ok}
 use Rattle.mv_json.specs.Words.{Data, Message, Token}
 use Rattle.mv_json.specs.Messages.{read_message}
 use Rattle.mv_json.specs.Met.{BeginWith}
-use Rattle.mv_json.specs.declared.object.Object.TheVariants as objects
 
 -- the tokens are a value of JSON that is read as this message, then the rest
 abbrev pub BeginWithMessage : List Token → Message → List Token → Type 0
 BeginWithMessage ts message rest = (found : Data) × BeginWith 2 ts found rest × (read_message found ≡ Ok message)
-
--- ---- objects of which fields are read: values, and fields that were met

@@ -1,8 +1,7 @@
--- What is written: the members of objects, and the tokens of JSON that a text is written by.
-use Rattle.mv_json.specs.Words.{Data, Token, outline}
+-- The tokens of JSON that a value is written by.
+use Rattle.mv_json.specs.Words.{Data, Token, Written, outline}
 use Rattle.std.specs.Prelude.{◌≡◌, List, ◌++◌, Result, OnOk}
 use Rattle.json.specs.Tree.{json_tokens}
-use Rattle.json.specs.Written.{Written}
 
 -- the tokens of a value
 abbrev pub tokens_of : Data → List Token
@@ -12,5 +11,3 @@ tokens_of value = json_tokens (outline value)
 pub record Puts {E : Type 0} (result : Result (Unit {0}) E) (old new : Written) (tokens : List Token) : Type 0 where
   pub before : new.before ≡ old.before
   pub ok : OnOk result (new.tokens ≡ old.tokens ++ tokens)
-
--- ---- members

@@ -1,5 +1,4 @@
--- What only invariants, private functions and proofs name.
-pub mod Met
+-- What no clause of a public call names: it is for views, invariants and other ghost members, private functions and proofs.
 pub mod Parts
 pub mod Shapes
 pub mod Tokens

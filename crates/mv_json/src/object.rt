@@ -6,8 +6,7 @@ ghost use Rattle.mv_json.specs.Words.{Data, as_bool, as_null, as_str, get};
 ghost use Rattle.mv_json.specs.Fields.{field_name};
 ghost use Rattle.mv_json.specs.Reading.{whole_number};
 ghost use Rattle.mv_json.specs.Members.{HasOnly};
-ghost use Rattle.mv_json.specs.inside.Met.{IsOneOf};
-ghost use Rattle.mv_json.specs.inside.Parts.{IsPlace, IsThere, Stands};
+ghost use Rattle.mv_json.specs.inside.Parts.{IsOneOf, IsPlace, IsThere, Stands};
 
 use crate::Field;
 use crate::part::{Entry, Part, find, is_same};
@@ -62,7 +61,7 @@ impl Object<'_> {
 }
 
 /// Whether a field is one of these.
-#[tactic(auto, unfolding(crate::specs::inside::Met::IsOneOf))]
+#[tactic(auto, unfolding(crate::specs::inside::Parts::IsOneOf))]
 fn is_one_of(field: Field, fields: &[Field]) -> bool
     ensures { IsTrue result → IsOneOf fields.now field }
 {

@@ -1,6 +1,6 @@
 //! Runs messages, a line each.
 
-ghost use Rattle.std.specs.Prelude.{◌≡◌, ℕ, List, OnOk, IfOk, IfErr, IfSome};
+ghost use Rattle.std.specs.Prelude.{◌≡◌, OnOk, IfOk, IfErr, IfSome};
 ghost use Rattle.std.specs.Io.KnownBytes.{Appends};
 ghost use Rattle.mv_json.specs.Messages.{read_bytes};
 ghost use Rattle.mv_json.specs.Reading.{GivesOr};

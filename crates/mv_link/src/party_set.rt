@@ -89,7 +89,7 @@ impl PartySet {
     /// Takes the least party out of the set.
     #[tactic(auto, using(crate::proofs::PartySetLemmas::first_in, crate::proofs::PartySetLemmas::rest_in, crate::proofs::PartySetLemmas::none_in, crate::proofs::PartySetLemmas::empty_has))]
     pub fn pop_first(&mut self) -> Option<Party>
-        ensures list { MatchOption result (parties_in self.old ≡ [])
+        ensures list { MatchOption result ((parties_in self.old ≡ []) × (self.new ≡ self.old))
             (λ party. parties_in self.old ≡ party ∷ parties_in self.new) }
         ensures sets { MatchOption result ((party : ℕ) → has_party self.old party ≡ false)
             (λ party. (party < PARTIES_LIMIT) × (has_party self.old party ≡ true)

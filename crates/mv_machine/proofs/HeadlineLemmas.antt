@@ -1,10 +1,9 @@
 -- The headline follows from two lawful states of which one follows the other.
-use Rattle.mv_machine.proofs.Words.{arith, Reply, Step, ClosedLinksStayClosed, Follows, HeadlineHolds, InSteps, IsLawful, IsWellFormed, State}
+use Rattle.mv_machine.proofs.Words.{ClosedLinksStayClosed, Follows, HeadlineHolds, InSteps, IsLawful, IsWellFormed, Reply, State, Step, Verify, arith}
 use Rattle.mv_machine.proofs.LawfulLemmas.{change-sound, opening-sound, run-sound}
 use Rattle.mv_machine.proofs.ClosingLemmas.{nothing_routed_later, nothing_submitted_later, follows-same, follows_further, change-follows, run-follows}
 use Rattle.mv_machine.proofs.StampLemmas.{repositories_agree}
 use Rattle.mv_machine.proofs.SubmittedLemmas.{applied_submitted, numbers_rise}
-use Rattle.mv_machine.specs.declared.step.Step.TheVariants.{Verify}
 use Rattle.mv_machine.proofs.StepLemmas.{Change, step-changes, asked-changes}
 
 pub headline : (old new : State) → IsLawful old → IsWellFormed new → IsLawful new → Follows old new → HeadlineHolds old new

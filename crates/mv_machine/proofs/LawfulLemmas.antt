@@ -1,6 +1,5 @@
 -- Each step keeps a state well formed and lawful, and so does each run.
-use Rattle.std.proofs.lemmas.Grind.{elements}
-use Rattle.mv_machine.proofs.Words.{◌≡◌, ℕ, ◌+◌, ◌<◌, true, List, [], ◌∷◌, ◌++◌, length, Some, refl, ap, ◌∙◌, subst, append-nil, arith, length-set, eqb, eqb-true, slice_get, option_to_list, Query, Allows, Bounds, Closed, Entry, Fits, InRuns, IsLawful, IsLawfulAt, IsLawfulRecord, IsPrefix, IsWellFormed, Item, Message, Reply, Runs, SiteState, State, Step, answer_to, answers_in, entry_from, gained, get_or-map-range_with_len, is_open, items_from, items_from-push, items_on, length-map, length-range_with_len, link_items-push, log_of, new_hub, new_site, next_entry, opened_site, opening, party-applied, party-submitted, put-each, range_with_len, routed_count, routed_from, routed_from-append, sent_of, site_of, square-put, square-replicate, submissions_of, with_applied, with_closed, with_relayed, with_routed, with_site, with_submission, with_wire}
+use Rattle.mv_machine.proofs.Words.{Allows, Bounds, Closed, Entry, Fits, InRuns, IsLawful, IsLawfulAt, IsLawfulRecord, IsPrefix, IsWellFormed, Item, List, Message, Query, Reply, Runs, SiteState, Some, State, Step, [], answer_to, answers_in, ap, append-nil, arith, elements, entry_from, eqb, eqb-true, gained, get_or-map-range_with_len, is_open, items_from, items_from-push, items_on, length, length-map, length-range_with_len, length-set, link_items-push, log_of, new_hub, new_site, next_entry, opened_site, opening, option_to_list, party-applied, party-submitted, put-each, range_with_len, refl, routed_count, routed_from, routed_from-append, sent_of, site_of, slice_get, square-put, square-replicate, submissions_of, subst, true, with_applied, with_closed, with_relayed, with_routed, with_site, with_submission, with_wire, ℕ, ◌++◌, ◌+◌, ◌<◌, ◌∙◌, ◌∷◌, ◌≡◌}
 use Rattle.mv_machine.proofs.PrefixLemmas.{prefix-grows, prefix-maybe, each-push}
 use Rattle.mv_machine.proofs.StepLemmas.{Change, next_item, nothing, submitted, asked, routed, closed, relayed, repeated, dropped, applied, run-keeps}
 

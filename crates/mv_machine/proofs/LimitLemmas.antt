@@ -1,6 +1,5 @@
 -- Each step keeps the limits, and so does each run.
-use Rattle.std.proofs.lemmas.Grind.{common_steps}
-use Rattle.mv_machine.proofs.Words.{◌≡◌, ℕ, ◌+◌, ◌-◌, ◌<◌, ◌≤◌, List, [], ◌∷◌, ◌++◌, length, drop, None, arith, length-append, append-nil, find, Query, Reply, Step, All-push, All-tail, Bounds, Entry, InRuns, Item, LogEntry, Message, SiteState, State, apply_fault, ask_fault, busy_party, elements, find-none_at, gained, gained_other, get_or-replicate, is_busy, is_party, is_uplink_full, items_on, link_items, link_items-push, log_of, next_entry, opening, put-each_pair, range_with_len, route_fault, routed_count, sent_of, site_of, wire_of, with_applied, with_site, with_submission, with_wire}
+use Rattle.mv_machine.proofs.Words.{All-push, All-tail, Bounds, Entry, InRuns, Item, List, LogEntry, Message, None, Query, Reply, SiteState, State, Step, [], append-nil, apply_fault, arith, ask_fault, busy_party, common_steps, drop, elements, find, find-none_at, gained, gained_other, get_or-replicate, is_busy, is_party, is_uplink_full, items_on, length, length-append, link_items, link_items-push, log_of, next_entry, opening, put-each_pair, range_with_len, route_fault, routed_count, sent_of, site_of, wire_of, with_applied, with_site, with_submission, with_wire, ℕ, ◌++◌, ◌+◌, ◌-◌, ◌<◌, ◌∷◌, ◌≡◌, ◌≤◌}
 use Rattle.mv_link.specs.declared.incoming.Look.TheVariants as look
 use Rattle.mv_machine.specs.Bounded.{IsLinkWithin, KeepsLimits}
 use Rattle.mv_machine.proofs.LawfulLemmas.{IsSound, change-sound, opening-site, opening-sound}

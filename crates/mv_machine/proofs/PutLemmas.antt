@@ -1,6 +1,5 @@
 -- Which entry of the record put each item on a link: the items of a link are put there in the order of the record.
-use Rattle.mv_machine.proofs.Words.{◌≡◌, ℕ, zero, suc, ◌+◌, ◌<◌, ◌≤◌, Bool, true, false, List, [], ◌∷◌, ◌++◌, length, take, cond, eqb, Some, refl, append_assoc, arith, All, slice_get, ◌&&◌, IsTrue, nat_lt, All-cons, All-nil, Carried, Closed, Entry, Fits, IsLawful, Item, LogEntry, Message, Receipt, Routed, State, and_parts, eqb-true, gained, is_open, items_from, link_items, link_items_after, log_of, number_of, routed_count, take-append_seam}
-use Rattle.mv_hub.specs.Targets.{is_reached, is_target, reach, is_query}
+use Rattle.mv_machine.proofs.Words.{All, All-cons, All-nil, Bool, Carried, Closed, Entry, Fits, IsLawful, IsTrue, Item, List, LogEntry, Message, Receipt, Routed, Some, State, [], and_parts, append_assoc, arith, cond, eqb, eqb-true, false, gained, is_open, is_query, is_reached, is_target, items_from, length, link_items, link_items_after, log_of, nat_lt, number_of, reach, refl, routed_count, slice_get, suc, take, take-append_seam, true, zero, ℕ, ◌&&◌, ◌++◌, ◌+◌, ◌<◌, ◌∷◌, ◌≡◌, ◌≤◌}
 use Rattle.mv_machine.proofs.PrefixLemmas.{slice_get-behind}
 use Rattle.mv_machine.proofs.BoundLemmas.{AllFit, first-fits, rest-fit, routed_count-push}
 

@@ -1,15 +1,11 @@
 -- What a step changes, and what it has seen to before: one lemma for all that every step keeps.
 use Rattle.mv_pack.specs.declared.key.PackKey.{PackKey}
-use Rattle.mv_machine.proofs.Words.{◌≡◌, ℕ, ◌+◌, ◌<◌, ◌≤◌, Bool, true, false, List, [], ◌∷◌, ◌++◌, length, Option, Some, None, refl, sym, subst, arith, slice_get, IsTrue, Query, Allows, InSteps, Item, answer_to, entry_from, log_of, nat_tests, Meets, Message, Reply, Runs, State, Step, answers_in, apply_fault, ask_fault, is_open, is_uplink_full, items_on, next-number, no_answer, route_fault, routed_count, sent_of, site_of, submissions_of, submit-free, wire_of, with_applied, with_closed, with_relayed, with_routed, with_site, with_submission, with_wire}
+use Rattle.mv_machine.proofs.Words.{Allows, Apply, Bool, Close, InSteps, IsTrue, Item, List, Lose, Meets, Message, None, Option, Query, Relay, Repeat, Reply, Route, Runs, Some, State, Step, Submit, Verdict, Verify, [], answer_number, answer_to, answers_in, applied_count, apply_fault, arith, ask_fault, entry_from, false, is_open, is_uplink_full, items_on, length, log_of, nat_tests, next-number, no_answer, reach, refl, route_fault, routed_count, sent_of, site_of, slice_get, submissions_of, submit-free, subst, sym, true, wire_of, with_applied, with_closed, with_relayed, with_routed, with_site, with_submission, with_wire, ℕ, ◌++◌, ◌+◌, ◌<◌, ◌∷◌, ◌≡◌, ◌≤◌}
 use Rattle.mv_link.specs.declared.incoming.Look.TheVariants as look
-use Rattle.mv_machine.specs.declared.step.Step.TheVariants.{Submit, Verify, Route, Relay, Apply, Repeat, Close, Lose, Verdict}
 use Rattle.mv_machine.specs.declared.reply.Reply.TheVariants.{Refused, Submitted, Asked, Routed, Closed, Relayed, Repeated, Old, Gap, Lost, Applied}
 use Rattle.mv_machine.specs.declared.reply.Refusal.TheVariants.{Memory}
 use Rattle.mv_machine.specs.Replies.{changes_nothing}
-use Rattle.mv_hub.specs.Targets.{reach}
 use Rattle.mv_repository.specs.Pack.{effect_of}
-use Rattle.mv_party.specs.Site.{answer_number}
-use Rattle.mv_machine.specs.State.{applied_count}
 use Rattle.mv_machine.specs.Steps.{ask, outcome}
 
 -- the item that a repository is to apply next from a sender

@@ -1,8 +1,7 @@
 -- What a lawful state applied is what was submitted: each item of a link is put there by the routing of one message, and their
 -- turns rise.
-use Rattle.std.proofs.lemmas.Option.{slice_get-get_or}
 use Rattle.std.specs.List.Sorted.{IsStrictlyIncreasing}
-use Rattle.mv_machine.proofs.Words.{◌≡◌, ℕ, zero, suc, ◌+◌, ◌<◌, List, [], ◌∷◌, get_or, length, take, Some, arith, inl, inr, slice_get, filter, map, not, Bool, true, AppliedIsSubmitted, Entry, IsLawful, IsOfSubmission, IsRoutedAt, Item, LogEntry, Message, NumbersRise, Routed, State, cases_Bool, is_carried, items_from, log_of, number_of, routed_count, routed_from}
+use Rattle.mv_machine.proofs.Words.{AppliedIsSubmitted, Bool, Entry, IsLawful, IsOfSubmission, IsRoutedAt, Item, List, LogEntry, Message, NumbersRise, Routed, Some, State, [], arith, cases_Bool, filter, get_or, inl, inr, is_carried, items_from, length, log_of, map, not, number_of, routed_count, routed_from, slice_get, slice_get-get_or, suc, take, true, zero, ℕ, ◌+◌, ◌<◌, ◌∷◌, ◌≡◌}
 use Rattle.mv_machine.proofs.PrefixLemmas.{slice_get-append}
 use Rattle.mv_machine.proofs.StampLemmas.{entry-at}
 use Rattle.mv_machine.proofs.PutLemmas.{IsPut, ArePut, turn, put-rest, log-put, entry-put}

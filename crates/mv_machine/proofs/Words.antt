@@ -5,6 +5,8 @@ unfoldable pub use Rattle.mv_hub.specs.Hub.{busy_party, is_busy, route_fault}
 pub use Rattle.mv_hub.specs.Links.{link_items_after}
 unfoldable pub use Rattle.mv_hub.specs.Links.{gained, link_items}
 pub use Rattle.mv_hub.specs.Record.{is_open, routed_count, routed_from}
+pub use Rattle.mv_hub.specs.Targets.{is_query, is_target, reach}
+unfoldable pub use Rattle.mv_hub.specs.Targets.{is_reached}
 pub use Rattle.mv_hub.specs.declared.entry.Entry.{Entry}
 pub use Rattle.mv_hub.specs.declared.entry.Entry.TheVariants.{Closed, Routed}
 pub use Rattle.mv_link.proofs.CallerLemmas.{find-none_at, next-number}
@@ -17,15 +19,16 @@ pub use Rattle.mv_machine.specs.Laws.{ClosedLinksStayClosed, InRuns, InSteps, Nu
 pub use Rattle.mv_machine.specs.Limits.{Bounds}
 pub use Rattle.mv_machine.specs.Runs.{Runs}
 unfoldable pub use Rattle.mv_machine.specs.Runs.{Allows, Meets}
-pub use Rattle.mv_machine.specs.State.{State, is_party, is_uplink_full, log_of, opened_site, opening, site_of, submissions_of, wire_of, with_site, with_wire}
+pub use Rattle.mv_machine.specs.State.{State, applied_count, is_party, is_uplink_full, log_of, opened_site, opening, site_of, submissions_of, wire_of, with_site, with_wire}
 pub use Rattle.mv_machine.specs.declared.reply.Reply.{Reply}
 pub use Rattle.mv_machine.specs.declared.step.Step.{Step}
-pub use Rattle.mv_message.specs.declared.message.Message.TheVariants.{Query}
+pub use Rattle.mv_machine.specs.declared.step.Step.TheVariants.{Apply, Close, Lose, Relay, Repeat, Route, Submit, Verdict, Verify}
 pub use Rattle.mv_message.specs.declared.message.Message.{Message}
+pub use Rattle.mv_message.specs.declared.message.Message.TheVariants.{Query}
 pub use Rattle.mv_pairs.proofs.CallerLemmas.{put-each, put-each_pair, square-put, square-replicate}
 pub use Rattle.mv_party.proofs.CallerLemmas.{items_from-push, no_answer, party-applied, party-submitted, submit-free}
 pub use Rattle.mv_party.specs.Calls.{apply_fault, ask_fault}
-pub use Rattle.mv_party.specs.Site.{SiteState, answers_in, entry_from, new_site, with_applied, with_submission}
+pub use Rattle.mv_party.specs.Site.{SiteState, answer_number, answers_in, entry_from, new_site, with_applied, with_submission}
 pub use Rattle.mv_repository.specs.Repository.{items_from}
 pub use Rattle.mv_repository.specs.Verdict.{answer_to}
 pub use Rattle.mv_repository.specs.declared.entry.LogEntry.{LogEntry}
@@ -37,6 +40,6 @@ pub use Rattle.std.proofs.lemmas.Grind.{common_steps, elements}
 pub use Rattle.std.proofs.lemmas.List.{get_or-replicate, length-map}
 pub use Rattle.std.proofs.lemmas.List.Elements.{All-cons, All-nil, All-push, All-tail, All-take}
 pub use Rattle.std.proofs.lemmas.List.FromFn.{get_or-map-range_with_len, length-range_with_len}
-pub use Rattle.std.proofs.lemmas.Option.{gets}
+pub use Rattle.std.proofs.lemmas.Option.{gets, slice_get-get_or}
 pub use Rattle.std.specs.List.{AllByRecursion, range_with_len}
 pub use mathlib.Core.List.{IsPrefix}

@@ -133,13 +133,13 @@ pub enum Message {
 const _: () = prove!(size_of::<Message>() <= 96);
 
 impl Message {
-    ghost use Rattle.mv_message.specs.Kinds.{is_query_or_answer};
+    ghost use Rattle.mv_message.specs.Kinds.{has_codes_alone};
 
     /// A message of its own that equals this one.
     pub fn copy(&self, alloc: Global) -> Result<Message, AllocError>
         ensures copy { IfOk result (λ message. message ≡ self.now) }
-        // A query or an answer takes no memory to copy.
-        ensures no_memory { IsTrue (is_query_or_answer self.now) → IsOk result }
+        // What holds no text and no list takes no memory to copy.
+        ensures no_memory { IsTrue (has_codes_alone self.now) → IsOk result }
     {
         match self {
             Message::Master { gtin, product } => Ok(Message::Master {

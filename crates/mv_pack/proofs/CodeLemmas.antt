@@ -1,6 +1,5 @@
 -- What is read as a serial, batch or national number.
-use Rattle.std.proofs.Common.{◌≡◌, ◌∙◌, ℕ, zero, suc, ◌<◌, ◌≤◌, ◌+◌, ◌-◌, ◌++◌, List, [], ◌∷◌, Bool, true, false, cond, not, ◌&&◌, length, take, drop, replicate, refl, sym, ap, ap₂, subst, arith, IsUtf8, None, Some, Ok, Err}
-use Rattle.mv_pack.proofs.Words.{IsCode, IsFilledUp, and_parts, count_by, count_by-le-length, drop-replicate, filled_up, first_wrong, is_code_character, is_filled, is_zero, length-append, length-drop, length-take-le, list_all, list_all-append, most_code_bytes, nat_tests, position_from, prefix_len, read_code, sum_by-append, sum_by-cons, sum_by-replicate, take-append-drop, take-append-le, take-take, take_all, text_before}
+use Rattle.mv_pack.proofs.Words.{Bool, Err, IsCode, IsFilledUp, IsUtf8, List, None, Ok, Some, [], and_parts, ap, ap₂, arith, cond, count_by, count_by-le-length, drop, drop-replicate, false, filled_up, first_wrong, is_code_character, is_filled, is_zero, length, length-append, length-drop, length-take-le, list_all, list_all-append, most_code_bytes, nat_tests, not, position_from, prefix_len, read_code, refl, replicate, subst, suc, sum_by-append, sum_by-cons, sum_by-replicate, sym, take, take-append-drop, take-append-le, take-take, take_all, text_before, true, zero, ℕ, ◌&&◌, ◌++◌, ◌+◌, ◌-◌, ◌<◌, ◌∙◌, ◌∷◌, ◌≡◌, ◌≤◌}
 use Rattle.std.proofs.lemmas.Slice.{take-put_mid, drop-put_mid}
 use Rattle.std.proofs.Math.Seq.{take-append_seam, drop-append-add}
 use borrow.Rule.Slice.PartMut.{put_mid}

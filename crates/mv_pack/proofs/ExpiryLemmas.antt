@@ -1,6 +1,5 @@
 -- Day numbers of the century 20, and dates as six digits.
-use Rattle.std.proofs.Common.{◌≡◌, ℕ, ◌+◌, ◌<◌, ◌≤◌, ◌&&◌, ◌==◌, List, length, true, cond, arith, pos, ◌≤ℤ◌, Ok}
-use Rattle.mv_pack.proofs.Words.{and_parts, is_digit, list_all, nat_tests}
+use Rattle.mv_pack.proofs.Words.{List, Ok, and_parts, arith, cond, is_digit, length, list_all, nat_tests, pos, true, ℕ, ◌&&◌, ◌+◌, ◌<◌, ◌==◌, ◌≡◌, ◌≤ℤ◌, ◌≤◌}
 use Rattle.mv_pack.proofs.TextLemmas.{passes_at, chosen_ok}
 use Rattle.mv_pack.specs.declared.fault.PackFault.TheVariants.{Date}
 use Rattle.jiff_core.specs.Calendar.{days_from_civil}

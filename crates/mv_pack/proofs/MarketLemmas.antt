@@ -1,7 +1,5 @@
 -- Texts of capital letters.
-use Rattle.std.proofs.lemmas.Grind.{common_steps}
-use Rattle.std.proofs.Common.{◌≡◌, ℕ, ◌<◌, ◌≤◌, List, get_or, true, arith, IsUtf8, Ok}
-use Rattle.mv_pack.proofs.Words.{list_all, nat_tests}
+use Rattle.mv_pack.proofs.Words.{IsUtf8, List, Ok, arith, common_steps, get_or, list_all, nat_tests, true, ℕ, ◌<◌, ◌≡◌, ◌≤◌}
 use Rattle.mv_pack.specs.Market.{is_capital, IsMarket, read_market}
 use Rattle.mv_pack.proofs.TextLemmas.{text_of_ascii}
 

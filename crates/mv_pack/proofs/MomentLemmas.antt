@@ -1,6 +1,5 @@
 -- What is read as a moment.
-use Rattle.std.proofs.Common.{◌≡◌, ℕ, arith, Ok}
-use Rattle.std.proofs.lemmas.Bool.Decides.{nat_tests}
+use Rattle.mv_pack.proofs.Words.{Ok, arith, nat_tests, ℕ, ◌≡◌}
 use Rattle.mv_pack.specs.Moment.{IsMoment, read_moment}
 
 -- what is read is a moment

@@ -1,7 +1,5 @@
 -- Texts whose bytes pass a test, and readings that choose by a test.
-use Rattle.std.proofs.lemmas.Grind.{common_steps}
-use Rattle.std.proofs.Common.{◌≡◌, ℕ, ◌<◌, List, Bool, true, cond, length, get_or, arith, IsUtf8, Result, Ok, Err}
-use Rattle.mv_pack.proofs.Words.{list_all, list_all_at}
+use Rattle.mv_pack.proofs.Words.{Bool, Err, IsUtf8, List, Ok, Result, arith, common_steps, cond, get_or, length, list_all, list_all_at, true, ℕ, ◌<◌, ◌≡◌}
 use Rattle.std.proofs.lemmas.Str.{IsUtf8-from_ascii}
 
 -- each element of a list that passes throughout passes

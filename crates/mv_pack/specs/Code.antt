@@ -1,5 +1,5 @@
 -- Serial numbers, batch numbers and national numbers, as texts, by the GS1 General Specifications.
-use Rattle.std.specs.Prelude.{ℕ, ◌+◌, ◌-◌, ◌≤◌, ◌==◌, ◌&&◌, ◌||◌, not, Bool, List, length, nat_le, nat_lt, if◌then◌else◌, IsTrue, Option, Some, None, Result, Ok, Err}
+use Rattle.std.specs.Prelude.{ℕ, ◌+◌, ◌≤◌, ◌==◌, ◌&&◌, ◌||◌, not, Bool, List, length, nat_le, nat_lt, if◌then◌else◌, IsTrue, Option, Some, None, Result, Ok, Err}
 use Rattle.mv_pack.specs.Words.{Character, Empty, PackFault, TooLong, list_all, position_from}
 use Rattle.mv_pack.specs.Gtin.{is_digit}
 use Rattle.mv_pack.specs.Market.{is_capital}

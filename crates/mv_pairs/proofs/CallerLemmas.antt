@@ -61,10 +61,6 @@ table-all f x n t h a =
     map-all (map f) (replicate n x) n t h.rows
     (λ k d lt. map-all f x n (get_or t k d) (ap length (get_or_default t k d [] lt) ∙ h.row k (subst (λ m. k < m) h.rows lt)) (a k d lt))
 
--- what holds of all holds at each pair
-pub cell-all : {A : Type 0} (P : A → Type 0) (n : ℕ) (t : List (List A)) (s r : ℕ) (d : A) → IsSquare n t → All (All P) t → s < n → r < n → P (cell t s r d)
-cell-all P n t s r d h a p q = a s [] (subst (λ k. s < k) (sym h.rows) p) r d (subst (λ k. r < k) (sym (h.row s p)) q)
-
 -- to put back what was read changes nothing
 pub put-read : {A : Type 0} (t : List (List A)) (s r : ℕ) (v d : A) → v ≡ cell t s r d → put t s r v ≡ t
 put-read t s r v d e = ap (put t s r) e ∙ put-cell t s r d

@@ -1,8 +1,7 @@
 -- What a party is seen as, and when it is lawful. What it accepted of each sender follows from its log.
 use Rattle.std.specs.Prelude.{◌≡◌, ◌<◌, ◌+◌, ◌==◌, ℕ, List, [], ◌∷◌, ◌++◌, length, Bool, Option, Some, None, option_to_list}
-use Rattle.mv_party.specs.Words.{Answer, Item, LogEntry, Message, answer_to, answers_of}
+use Rattle.mv_party.specs.Words.{Answer, Item, LogEntry, Message, answer_to, answers_of, items_from}
 use Rattle.std.specs.List.{AllByRecursion}
-use Rattle.mv_repository.specs.Repository.{items_from}
 
 -- one party of a system
 pub record SiteState : Type 0 where

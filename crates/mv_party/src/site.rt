@@ -76,6 +76,13 @@ impl Site {
         })
     }
 
+    /// How many parties there are, itself among them.
+    pub fn parties(&self) -> usize
+        ensures { result ≡ self.now.parties }
+    {
+        self.accepted.len()
+    }
+
     /// What it submitted, the oldest message first.
     pub fn submissions(&self) -> &[Shared<Message>]
         ensures value { result.now ≡ self.now.submissions }

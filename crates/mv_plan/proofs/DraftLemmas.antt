@@ -3,7 +3,7 @@ use Rattle.std.proofs.Common.{◌≡◌, ℕ, ◌<◌, List, [], ◌∷◌, ◌+
 use Rattle.std.proofs.Math.Seq.{map-set_same}
 use Rattle.std.specs.declared.alloc.Global.{Global}
 use Rattle.std.specs.declared.vec.Vec.{Vec}
-use Rattle.std.proofs.lemmas.List.{map-set, length-map, length-set, get_or-set_same, get_or-set_other, get_or-map}
+use Rattle.std.proofs.lemmas.List.{map-set, length-map, get_or-map}
 use Rattle.mv_message.specs.declared.message.Message.{Message}
 use Rattle.mv_party.specs.Site.{answers_in}
 use Rattle.mv_party.proofs.CallerLemmas.{answers_in-append}
@@ -23,11 +23,6 @@ pub lists_more : (lists : List (Vec Message Global)) (party : ℕ) (message : Me
     → was ≡ slice_index_or lists party was → now.items ≡ was.items ++ message ∷ []
     → lists_of (slice_set lists party now) ≡ slice_set (lists_of lists) party (slice_index_or (lists_of lists) party [] ++ message ∷ [])
 lists_more lists party message was now below found grown = grind (arith, map-set, get_or-map)
-
--- a plan with another list of one party, in which there is no answer
-set_can_run : (plan : Parts) (party : ℕ) (list : List Message) → CanRun plan → party < length plan.work → answers_in list ≡ []
-    → CanRun (record plan { work = slice_set plan.work party list })
-set_can_run plan party list runs below none = grind (arith, length-set, get_or-set_same, get_or-set_other)
 
 module _ (parties : List (List (List ℕ))) (limits : Bounds) (work : List (Vec Message Global)) (party : ℕ) (was now : Vec Message Global)
     (found : was ≡ slice_index_or work party was) (plan : Parts) (same : parts_in parties limits work ≡ plan) where

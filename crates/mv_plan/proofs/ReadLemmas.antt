@@ -36,5 +36,5 @@ read_whole input before after planned old new nothing same served = grind (arith
 
 -- why the answering of lines ended is why they were not read
 pub unread : {S : Type 0} (rule : ReplyRule S) (fault : ServeFault) (before : S) (input rest old new : Option (List ℕ)) → fault ≢ Write
-    → (bytes : List ℕ) × Consumes input rest bytes × Ended rule fault before bytes old new → Unread fault input rest
+    → (bytes : List ℕ) × Consumes input rest bytes × Ended rule fault before bytes rest old new → Unread fault input rest
 unread rule fault before input rest old new read h8 = grind arith

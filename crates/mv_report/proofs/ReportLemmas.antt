@@ -1,13 +1,11 @@
 -- Lemmas on the report.
-use Rattle.std.proofs.Common.{◌≡◌, ℕ, ◌+◌, ◌-◌, ◌^◌, List, [], ◌∷◌, ◌++◌, refl, append-nil, ap, arith, length, filter, replicate, flat_map, codes, decimal, IfOk, OnOk, zero, suc, false, Result}
+use Rattle.mv_report.proofs.Words.{IfOk, List, OnOk, Result, [], ap, append-nil, arith, codes, decimal, false, filter, flat_map, head_line, in_ten_places, is_closing, length, party_line, range_with_len, refl, repeat, replicate, report_text, suc, zero, ℕ, ◌++◌, ◌+◌, ◌-◌, ◌^◌, ◌∷◌, ◌≡◌}
 use Rattle.std.proofs.lemmas.Bool.Decides.{nat_tests}
-use Rattle.std.specs.List.{range_with_len, repeat}
 use Rattle.std.specs.Fmt.{padded_integral, format_spec, char_count}
 use Rattle.std.proofs.lemmas.Str.{encode_ascii}
 use Rattle.std.proofs.lemmas.List.{flat_map_more}
 use Rattle.mv_link.proofs.CallerLemmas.{range-append}
 use Rattle.mv_machine.specs.State.{State}
-use Rattle.mv_report.specs.Report.{in_ten_places, is_closing, party_line, head_line, report_text}
 
 -- blanks, one by one
 blanks : (n : ℕ) → repeat {A = ℕ} n (32 ∷ []) ≡ replicate n 32

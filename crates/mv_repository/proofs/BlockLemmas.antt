@@ -1,6 +1,5 @@
 -- Blocks of statuses, over any places and any rule by which a pack goes from one to the next.
-use Rattle.std.proofs.lemmas.Grind.{elements}
-use Rattle.mv_repository.proofs.Words.{◌≡◌, ◌+◌, ◌-◌, ◌<◌, ◌≤◌, ◌∷◌, ◌++◌, ◌||◌, ◌==◌, ◌%◌, ℕ, zero, suc, List, [], length, get_or, take, drop, fold, insert, set, sym, ◌∙◌, ap, subst, true, arith, append-nil, append_assoc, nat_tests, take-add, at_drop_more, drop-drop, drop_at, drop_of_length-le, get_or_default, length-take-le, take-append-drop, take-append-le, take_all, take_at, take_more, take_more_set, drop-append-le, length-drop, length-append, fold-append, AllByRecursion, has_party, PartySet, Block, Cut, PARTIES_LIMIT, IsCovered, IsSummary, AreBlocks, IsFront, IsCut, without, Placed, common_steps}
+use Rattle.mv_repository.proofs.Words.{AllByRecursion, AreBlocks, Block, Cut, IsCovered, IsCut, IsFront, IsSummary, List, PARTIES_LIMIT, PartySet, Placed, [], ap, append-nil, append_assoc, arith, at_drop_more, common_steps, drop, drop-append-le, drop-drop, drop_at, drop_of_length-le, elements, fold, fold-append, get_or, get_or_default, has_party, insert, length, length-append, length-drop, length-take-le, nat_tests, set, subst, suc, sym, take, take-add, take-append-drop, take-append-le, take_at, take_more, take_more_set, true, without, zero, ℕ, ◌%◌, ◌++◌, ◌+◌, ◌-◌, ◌<◌, ◌==◌, ◌||◌, ◌∙◌, ◌∷◌, ◌≡◌, ◌≤◌}
 
 -- lists that are cut
 cut-take : {A : Type 0} (n : ℕ) (xs ys : List A) → n ≤ length xs → take n (take n xs ++ ys) ≡ take n xs
@@ -97,11 +96,6 @@ module _ (entry : ℕ → Placed) (next : ℕ → ℕ → ℕ) (start : ℕ) (is
   module _ (own : List ℕ) (at : ℕ) (l : at + 1 ≡ length own) where
     pub last-without : without own at ≡ take at own
     last-without = ap (λ (t : List ℕ). take at own ++ t) (drop_of_length-le own (omega arith)) ∙ append-nil (take at own)
-
-    pub last-fold : next (fold next start (without own at)) (get_or own at 0) ≡ fold next start own
-    last-fold =
-        ap (λ (t : List ℕ). next (fold next start t) (get_or own at 0)) last-without ∙ sym (fold-append next start (take at own) (get_or own at 0 ∷ []))
-        ∙ ap (fold next start) (sym (take_more own at 0 (omega arith)) ∙ take_all (at + 1) own (omega arith))
 
     pub last-blocks : (bs : List Block) → AreBlocks entry next start start bs (without own at) → AreBlocks entry next start start bs own
     last-blocks bs h =

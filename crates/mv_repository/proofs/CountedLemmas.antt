@@ -1,7 +1,5 @@
 -- How many packs of a table are counted.
-use Rattle.std.proofs.Common.{rules}
-use Rattle.std.proofs.lemmas.Grind.{common_steps}
-use Rattle.mv_repository.proofs.Words.{◌^◌, ◌≡◌, ◌-◌, ◌<◌, ◌∷◌, ◌++◌, ◌&&◌, ◌||◌, nat_tests, bytes_eq, ℕ, List, [], length, map, filter, not, min, refl, sym, ◌∙◌, ap, arith, Bool, true, false, cond, Option, Some, None, is_some, or-false, list_any-append, lookup-filter-values, option_filter, IsDistinct-cons, IsDistinct-head, IsDistinct-tail, IsDistinct-keys_filter, distinct_count-le, is_member-filter, is_some-lookup, length-from_keys, IsEquivalence, nat_list_eq_equiv, same_text, AllByRecursion, IsDistinct, lookup, keys_of, unwrap_or, distinct_count, is_member, is_same_pack, pack_key, PackKey, LogEntry, Slot, is_counted, slots_counted, flat_map, uploaded_packs, ShelfTable, kept_by, kept_in, no_shelf, shelf_of, AreTablesOf, Kept, bare, track_of, Counted, Tables}
+use Rattle.mv_repository.proofs.Words.{AllByRecursion, AreTablesOf, Bool, Counted, IsDistinct, IsDistinct-cons, IsDistinct-head, IsDistinct-keys_filter, IsDistinct-tail, IsEquivalence, Kept, List, LogEntry, None, Option, PackKey, ShelfTable, Slot, Some, Tables, [], ap, arith, bare, bytes_eq, common_steps, cond, distinct_count, distinct_count-le, false, filter, flat_map, is_counted, is_member, is_member-filter, is_same_pack, is_some, is_some-lookup, kept_by, kept_in, keys_of, length, length-from_keys, list_any-append, lookup, lookup-filter-values, map, min, nat_list_eq_equiv, nat_tests, no_shelf, not, option_filter, or-false, pack_key, refl, rules, same_text, shelf_of, slots_counted, sym, track_of, true, unwrap_or, uploaded_packs, ℕ, ◌&&◌, ◌++◌, ◌-◌, ◌<◌, ◌^◌, ◌||◌, ◌∙◌, ◌∷◌, ◌≡◌}
 use Rattle.std.proofs.lemmas.List.Filters.{length-filter_both}
 use Rattle.mv_repository.proofs.KeptLemmas.{same_pack, pack-self, pack-sym}
 use Rattle.mv_repository.proofs.UploadedLemmas.{uploaded-found}

@@ -1,19 +1,15 @@
 -- Lemmas on the last master of a code, and on the table that finds it.
-use Rattle.std.proofs.Common.{rules}
-use Rattle.mv_repository.proofs.Words.{◌≡◌, ◌+◌, ◌∷◌, bytes_eq, ℕ, List, [], length, get_or, take, refl, sym, ◌∙◌, ap, Bool, true, false, cond, cond_both, Option, Some, None, IfSome, filter, same_text, filter_map, last_or, cons_option, lookup, option_map, option_and_then, Item, Master, Product, LogEntry, is_master, AreMastersOf, Message, message_in, entry_at, Placed, passes, put_in, ordered, Ascends, product_under, product_of, place_of, no_entry, arith, nat_tests, option_map_or}
+use Rattle.mv_repository.proofs.Words.{AreMastersOf, Ascends, Bool, IfSome, Item, List, LogEntry, Master, Message, None, Option, Placed, Product, Some, [], ap, arith, bytes_eq, cond, cond_both, cons_option, entry_at, false, filter, filter_map, get_or, is_master, last_or, length, lookup, message_in, nat_tests, no_entry, option_and_then, option_map, option_map_or, ordered, passes, place_of, product_of, product_under, put_in, refl, rules, same_text, sym, take, true, ℕ, ◌+◌, ◌∙◌, ◌∷◌, ◌≡◌}
 use Rattle.mv_repository.proofs.OrderLemmas.{still-stand, passes_behind, ordered-ascends, ordered-stand, last-all}
 use Rattle.mv_repository.proofs.TableLemmas.{longer, newest, newest-stands, at-newest, filter-ascends, filter-more, filter-none, filter-stand, found-more}
 
--- the product that a message describes, that an item does, and that the entry at a place does
+-- the product that a message describes, and that an item does
 abbrev product_of_message : Message → Option Product
 product_of_message (Master named product) = Some product
 product_of_message _ = None
 
 abbrev pub product_in : Item → Option Product
 product_in item = option_and_then product_of_message (message_in item)
-
-abbrev product_at : List LogEntry → ℕ → Option Product
-product_at log place = product_in (entry_at log place).entry.item
 
 -- the newest entry stands before the last so far, by their places
 abbrev pub comes_late : List LogEntry → ℕ → Option ℕ → Bool

@@ -1,6 +1,5 @@
 -- What a recall and a withdrawal do: their effects, the tables that find the first, and the packs on which they bear.
-use Rattle.std.proofs.Common.{rules}
-use Rattle.mv_repository.proofs.Words.{◌&&◌, ◌+◌, ◌∷◌, ◌≡◌, arith, nat_tests, bytes_eq, Bool, IfSome, Option, Some, [], ap, cond, false, find, get_or, length, not, sym, take, true, true≢false, ℕ, ◌∙◌, List, same_text, list_any, lookup, option_map, Item, batch_key, is_same_batch, pack_key, BatchKey, PackKey, LogEntry, Own, recalled_in, effect_after, effect_of, entries_before, lasting_effect, IsShelfOf, ShelfTable, is_listed, lists, made_batch, may_stop, option_and_then, is_master, Placed, ordered, KnownPack, is_recall_of, is_recalled_by, is_withdrawal_of, is_withdrawn_by, next_by, pack_made_by, withdrawn_in, AreFirstsOf, AreStopsOf, FirstStops, HasFirst, Stops, comes_first, first_place, first_stops, is_stop, no_entry, place_of, standing_at, stopped_product, first_upload, is_status_of, is_upload_of, life_of, statuses_of, Stop, common_steps}
+use Rattle.mv_repository.proofs.Words.{AreFirstsOf, AreStopsOf, BatchKey, Bool, FirstStops, HasFirst, IfSome, IsShelfOf, Item, KnownPack, List, LogEntry, Option, Own, PackKey, Placed, ShelfTable, Some, Stop, Stops, [], ap, arith, batch_key, bytes_eq, comes_first, common_steps, cond, effect_after, effect_of, entries_before, false, find, first_place, first_stops, first_upload, get_or, is_listed, is_master, is_recall_of, is_recalled_by, is_same_batch, is_status_of, is_stop, is_upload_of, is_withdrawal_of, is_withdrawn_by, lasting_effect, length, life_of, list_any, lists, lookup, made_batch, may_stop, nat_tests, next_by, no_entry, not, option_and_then, option_map, ordered, pack_key, pack_made_by, place_of, recalled_in, rules, same_text, standing_at, statuses_of, stopped_product, sym, take, true, true≢false, withdrawn_in, ℕ, ◌&&◌, ◌+◌, ◌∙◌, ◌∷◌, ◌≡◌}
 use Rattle.mv_repository.proofs.BeforeLemmas.{any-before}
 use Rattle.mv_repository.proofs.KeptLemmas.{life_batch, same_batch, batch-self, text-self}
 use Rattle.mv_repository.proofs.OrderLemmas.{ordered-ascends, ordered-below, still-stand}

@@ -1,7 +1,5 @@
 -- What is kept of a pack, and worked out by places in a log, is what the log means.
-use Rattle.std.proofs.Common.{rules}
-use Rattle.std.proofs.lemmas.Grind.{common_steps}
-use Rattle.mv_repository.proofs.Words.{◌≡◌, ◌<◌, ◌≤◌, ◌∷◌, is_same_pack, is_master, uploaded_in, length-map, take_at, length-take-le, get_or-insert_at, take-map, drop-map, AllByRecursion, insert, ℕ, List, [], length, get_or, take, drop, refl, sym, ◌∙◌, ap, subst, true, false, cond, cond_both, Option, Some, None, IfSome, is_some, true≢false, fold, map, filter, option_map, option_map_or, unwrap_or, PackKey, BatchKey, Status, Item, Carried, LogEntry, PartySet, Block, batch_key, Effect, BatchStanding, Placed, passes, stands_before, ordered, Ascends, KnownPack, change_effect, is_active, is_done, batch_standing, known_pack, entries_before, effect_after, effect_of, IsCovered, AreBlocks, standing_in, effect_from, message_in, effect_on, next_by, next_place, FirstStops, Stops, first_stops, stops_in, entry_at, place_of, no_entry, standing_at, AreStopsOf, Kept, is_upload_of, is_status_of, first_upload, statuses_of, pack_grown, life_of, start_of, track_of, IsKept, IsTrack, arith, nat_tests}
+use Rattle.mv_repository.proofs.Words.{AllByRecursion, AreBlocks, AreStopsOf, Ascends, BatchKey, BatchStanding, Block, Carried, Effect, FirstStops, IfSome, IsCovered, IsKept, IsTrack, Item, Kept, KnownPack, List, LogEntry, None, Option, PackKey, PartySet, Placed, Some, Status, Stops, [], ap, arith, batch_key, batch_standing, change_effect, common_steps, cond, cond_both, drop, drop-map, effect_after, effect_from, effect_of, effect_on, entries_before, entry_at, false, filter, first_stops, first_upload, fold, get_or, get_or-insert_at, insert, is_active, is_done, is_master, is_same_pack, is_some, is_status_of, is_upload_of, known_pack, length, length-map, length-take-le, life_of, map, message_in, nat_tests, next_by, next_place, no_entry, option_map, option_map_or, ordered, pack_grown, passes, place_of, refl, rules, standing_at, standing_in, stands_before, start_of, statuses_of, stops_in, subst, sym, take, take-map, take_at, track_of, true, true≢false, unwrap_or, uploaded_in, ℕ, ◌<◌, ◌∙◌, ◌∷◌, ◌≡◌, ◌≤◌}
 use Rattle.mv_repository.specs.declared.effect.Effect.TheVariants as effects
 use Rattle.mv_repository.proofs.OrderLemmas.{ordered-ascends, ordered-below, ordered-stand, Stand, still-stand}
 use Rattle.mv_repository.proofs.StateLemmas.{entry-stands, map-stands, find-stand}

@@ -1,6 +1,5 @@
 -- An upload in what is kept of one pack.
-use Rattle.std.proofs.lemmas.Grind.{common_steps}
-use Rattle.mv_repository.proofs.Words.{◌≡◌, ◌+◌, ◌<◌, ◌∷◌, ◌&&◌, ◌||◌, is_master, insert_key, keys_of, bytes_eq, ℕ, List, [], length, get_or, take, refl, sym, ◌∙◌, ap, subst, arith, Bool, true, false, cond, or-false, map, list_any_more, same_text, Item, pack_key, PackKey, LogEntry, ordered, kept_in, IsUploadOf, list_any, IsPackOf, IsShelfOf, ShelfTable, is_listed, made_batch, batch_at, comes_first, option_and_then, option_map, IfSome, Some, Option, Placed, first_upload, lookup, Stops, first_stops, stops_in, place_of, no_entry, AreStopsOf, earlier_place, Kept, Life, is_upload_of, is_status_of, statuses_of, life_of, track_of, IsKept, IsTrack, nat_tests, or-true}
+use Rattle.mv_repository.proofs.Words.{AreStopsOf, Bool, IfSome, IsKept, IsPackOf, IsShelfOf, IsTrack, IsUploadOf, Item, Kept, Life, List, LogEntry, Option, PackKey, Placed, ShelfTable, Some, Stops, [], ap, arith, batch_at, bytes_eq, comes_first, common_steps, cond, earlier_place, false, first_stops, first_upload, get_or, insert_key, is_listed, is_master, is_status_of, is_upload_of, kept_in, keys_of, length, life_of, list_any, list_any_more, lookup, made_batch, map, nat_tests, no_entry, option_and_then, option_map, or-false, or-true, ordered, pack_key, place_of, refl, same_text, statuses_of, stops_in, subst, sym, take, track_of, true, ℕ, ◌&&◌, ◌+◌, ◌<◌, ◌||◌, ◌∙◌, ◌∷◌, ◌≡◌}
 use Rattle.mv_repository.proofs.KeptLemmas.{life_batch, text-self}
 use Rattle.mv_repository.proofs.OrderLemmas.{ordered-stand, still-stand}
 use Rattle.mv_repository.proofs.StateLemmas.{find-stand}

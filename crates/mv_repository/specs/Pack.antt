@@ -23,7 +23,7 @@ pub record KnownPack : Type 0 where
   pub standing : Standing
   pub change : Option KnownChange
 
--- a pack stands active: it may be supplied
+-- a pack stands active: it may be supplied, unless its recall, its withdrawal or its expiry stands against that
 abbrev pub is_active : Standing → Bool
 is_active standings.Active = true
 is_active _ = false

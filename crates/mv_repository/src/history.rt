@@ -86,7 +86,7 @@ pub struct History<'a> {
 
 impl<'a> Model for History<'a> {
     ghost use Rattle.mv_repository.specs.Agreement.{PackHistory};
-    ghost use Rattle.mv_repository.specs.inside.Agreement.{AreAt, history_at};
+    ghost use Rattle.mv_repository.specs.inside.Track.{AreAt, history_at};
 
     ghost Value = { PackHistory };
 
@@ -151,7 +151,7 @@ pub struct Statuses<'a> {
 
 impl<'a> Model for Statuses<'a> {
     ghost use Rattle.mv_repository.specs.Clauses.{AllByRecursion, AnEntry, List, entry_at, entry_of, map};
-    ghost use Rattle.mv_repository.specs.inside.Agreement.{IsAt};
+    ghost use Rattle.mv_repository.specs.inside.Track.{IsAt};
 
     ghost Value = { List AnEntry };
 

@@ -22,6 +22,8 @@ mod pack;
 #[cfg(test)]
 mod pairs;
 #[cfg(test)]
+mod party;
+#[cfg(test)]
 mod repository;
 #[cfg(test)]
 mod session;

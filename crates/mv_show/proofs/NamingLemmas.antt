@@ -1,9 +1,8 @@
 -- Subjects that are noted one after another stand as the list of them that has each once.
-use Rattle.mv_show.proofs.Words.{◌≡◌, List, [], ◌∷◌, ◌++◌, Bool, true, ap, sym, append_assoc, append-nil, rules, arith, Decides-and, PackKey, is_same_pack, insert_all, LogEntry, Subject, Party, is_same_subject, named_of, subjects_of}
+use Rattle.mv_show.proofs.Words.{Bool, Decides-and, List, LogEntry, PackKey, Party, Subject, [], ap, append-nil, append_assoc, arith, fold-append, insert_all, is_same_pack, is_same_subject, named_of, rules, subjects_of, sym, true, ◌++◌, ◌∷◌, ◌≡◌}
 use Rattle.std.specs.Cmp.{IsEquivalence}
 use Rattle.std.proofs.lemmas.Cmp.{nat_list_eq_equiv}
 use Rattle.std.proofs.lemmas.Slice.Eq.{bytes_eq-Decides}
-use Rattle.std.proofs.lemmas.List.Sums.{fold-append}
 use Rattle.mv_hub.proofs.CallerLemmas.{distinct-push}
 use Rattle.mv_hub.specs.Listing.{distinct}
 use Rattle.mv_show.specs.declared.subject.Kind.TheVariants as kinds

@@ -1,6 +1,5 @@
 -- What is counted of a log.
-use Rattle.std.proofs.lemmas.List.Sums.{length-filter}
-use Rattle.mv_show.proofs.Words.{◌≡◌, ◌∙◌, ℕ, List, [], ◌∷◌, length, filter, count_by, ◌==◌, refl, rules, LogEntry}
+use Rattle.mv_show.proofs.Words.{List, LogEntry, [], count_by, filter, length, length-filter, refl, rules, ℕ, ◌==◌, ◌∙◌, ◌∷◌, ◌≡◌}
 use Rattle.mv_repository.specs.Repository.{items_from}
 
 -- as many items of a sender are in a log as entries of it

@@ -1,9 +1,9 @@
 -- Lemmas on an input that was taken, and on what was shown of it.
-use Rattle.mv_show.proofs.Words.{◌≡◌, ◌≢◌, ℕ, List, [], ◌∷◌, refl, arith, inl, rules, IfSome, Option, Some, None, Appends-nil}
-use Rattle.std.specs.Io.KnownBytes.{Consumes}
+use Rattle.std.proofs.Common.{Err, IfErr, Ok, Result, inr}
+use Rattle.mv_show.proofs.Words.{Appends-nil, Consumes, IfSome, List, None, Option, Some, [], arith, inl, refl, rules, ℕ, ◌∷◌, ◌≡◌, ◌≢◌}
 use Rattle.mv_engine.specs.declared.fault.ServeFault.{ServeFault}
 use Rattle.mv_engine.specs.declared.fault.ServeFault.TheVariants.{Read, Write, Memory}
-use Rattle.mv_engine.specs.Lines.{Line, pieces}
+use Rattle.mv_engine.specs.Lines.{Line, pieces, whole_from}
 use Rattle.mv_engine.specs.Replies.{AreReplies, said_texts}
 use Rattle.mv_engine.specs.Served.{AreAnswered, Served, StoppedAt, Ended}
 use Rattle.mv_lines.specs.Sessions.{Open}
@@ -31,22 +31,22 @@ stopped_in_silence : (fault : ServeFault) (before after : Open) (bytes out : Lis
 stopped_in_silence fault before after bytes out ps stopped = search (rules, silent)
 
 -- the answering of lines ended, and nothing was written
-ended_in_silence : (fault : ServeFault) (before : Open) (bytes : List ℕ) (old new contents : Option (List ℕ)) → fault ≢ Write
-    → Ended IsPassed fault before bytes old new → Ended IsPassed fault before bytes contents contents
-ended_in_silence Read before bytes old new contents other at_end =
+ended_in_silence : (fault : ServeFault) (before : Open) (bytes : List ℕ) (rest old new contents : Option (List ℕ)) → fault ≢ Write
+    → Ended IsPassed fault before bytes rest old new → Ended IsPassed fault before bytes rest contents contents
+ended_in_silence Read before bytes rest old new contents other at_end =
     (at_end.0, (at_end.1.0, ([], Appends-nil contents, silent before _ at_end.0 at_end.1.1.0 at_end.1.1.2)))
-ended_in_silence Write before bytes old new contents other at_end = absurd (other refl)
-ended_in_silence fault before bytes old new contents other at_end =
-    (at_end.0, ([], Appends-nil contents, stopped_in_silence fault before at_end.0 bytes at_end.1.0 (pieces bytes) at_end.1.2))
+ended_in_silence Write before bytes rest old new contents other at_end = absurd (other refl)
+ended_in_silence fault before bytes rest old new contents other (after, (ps, whole, (out, went, stopped))) =
+    (after, (ps, whole, ([], Appends-nil contents, stopped_in_silence fault before after bytes out ps stopped)))
 
 -- why the answering of lines ended is why nothing is shown
 pub not_shown : (fault : ServeFault) (before : Open) (input rest old new contents : Option (List ℕ)) → fault ≢ Write → before ≡ None
-    → (bytes : List ℕ) × Consumes input rest bytes × Ended IsPassed fault before bytes old new → Unshown fault input rest contents contents
+    → (bytes : List ℕ) × Consumes input rest bytes × Ended IsPassed fault before bytes rest old new → Unshown fault input rest contents contents
 not_shown Write before input rest old new contents other none at_end = absurd (other refl)
 not_shown Memory before input rest old new contents other none (bytes, took, ended) =
-    inl (bytes, took, ended_in_silence Memory None bytes old new contents other (rw none at ended), Appends-nil contents)
+    inl (bytes, took, ended_in_silence Memory None bytes rest old new contents other (rw none at ended), Appends-nil contents)
 not_shown fault before input rest old new contents other none (bytes, took, ended) =
-    (bytes, took, ended_in_silence fault None bytes old new contents other (rw none at ended), Appends-nil contents)
+    (bytes, took, ended_in_silence fault None bytes rest old new contents other (rw none at ended), Appends-nil contents)
 
 -- memory may be refused before anything was taken
 pub refused_at_once : (input rest contents : Option (List ℕ)) (bytes : List ℕ) → Consumes input rest bytes → Unshown Memory input rest contents contents
@@ -56,21 +56,31 @@ refused_at_once input rest contents bytes took = inl (
   (
     None,
     (
-      [],
-      Appends-nil contents,
-      record {
-        good = [];
-        bad = bytes;
-        cut = refl;
-        why = tt;
-        unanswered = pieces bytes;
-        parted = refl;
-        behind = None;
-        answered = record { kept = record { few = omega (arith); short = λ k d below. omega (arith, below) }; replied = ([], refl, refl) };
-        left = inl refl;
-        left_alone = λ other. refl;
-      },
+      whole_from [] bytes,
+      inl refl,
+      (
+        [],
+        Appends-nil contents,
+        record {
+          good = [];
+          bad = bytes;
+          cut = refl;
+          why = tt;
+          unanswered = whole_from [] bytes;
+          parted = refl;
+          behind = None;
+          answered = record { kept = record { few = omega (arith); short = λ k d below. omega (arith, below) }; replied = ([], refl, refl) };
+          left = inl refl;
+          left_alone = λ other. refl;
+        },
+      ),
     ),
   ),
   Appends-nil contents,
 )
+
+-- memory was refused once the input was taken whole, and nothing was written
+pub memory_refused : {A : Type 0} (r : Result A ServeFault) (input rest contents : Option (List ℕ)) → IfErr r (λ fault. fault ≡ Memory)
+    → (after : Open) → IfSome input (λ bytes. AreAnswered IsPassed 0 None (pieces bytes) after []) → IfErr r (λ fault. Unshown fault input rest contents contents)
+memory_refused (Ok shown) input rest contents is after taken = tt
+memory_refused (Err fault) input rest contents is after taken = rw is (inr (after, taken, Appends-nil contents))

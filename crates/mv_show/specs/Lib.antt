@@ -2,4 +2,3 @@ pub mod Words
 pub mod Subjects
 pub mod Shown
 pub mod Showing
-pub mod inside

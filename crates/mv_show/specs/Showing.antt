@@ -18,7 +18,7 @@ TakenWhole input Fact = (after : Open) × IfSome input (λ bytes. AreAnswered Is
 -- the input was not taken whole, and nothing went out, since nothing is written to a line
 abbrev pub NotShown : ServeFault → Option (List ℕ) → Option (List ℕ) → Option (List ℕ) → Option (List ℕ) → Type 0
 NotShown fault input rest old new =
-    (bytes : List ℕ) × Consumes input rest bytes × Ended IsPassed fault None bytes old new × Appends old new []
+    (bytes : List ℕ) × Consumes input rest bytes × Ended IsPassed fault None bytes rest old new × Appends old new []
 
 -- the input was taken whole, and all that stands then went out; whether a system is open
 abbrev pub Shows : Bool → Option (List ℕ) → Option (List ℕ) → Option (List ℕ) → Type 0
@@ -28,9 +28,9 @@ Shows is_open input old new = TakenWhole input (λ after. (is_open ≡ is_some a
 abbrev pub ShownInPart : Option (List ℕ) → Option (List ℕ) → Option (List ℕ) → Type 0
 ShownInPart input old new = TakenWhole input (λ after. WrotePart (lines_text (shown_rows after)) old new)
 
--- What a run that ended by a fault has written. Where a read failed, or a line or a byte came that may not: nothing. Where memory was
--- refused: nothing, or, once the input was taken, the first bytes of what stands. Where a write failed: these.
+-- What a run that ended by a fault has written. Where a read failed, a line or a byte came that may not, or memory was refused, also once
+-- the input was taken: nothing. Where a write failed: the first bytes of what stands.
 abbrev pub Unshown : ServeFault → Option (List ℕ) → Option (List ℕ) → Option (List ℕ) → Option (List ℕ) → Type 0
 Unshown Write input rest old new = ShownInPart input old new
-Unshown Memory input rest old new = NotShown Memory input rest old new ⊎ ShownInPart input old new
+Unshown Memory input rest old new = NotShown Memory input rest old new ⊎ TakenWhole input (λ after. Appends old new [])
 Unshown fault input rest old new = NotShown fault input rest old new

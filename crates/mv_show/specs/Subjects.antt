@@ -1,8 +1,6 @@
 -- What the log of a repository names, and in which order.
 use Rattle.std.specs.Prelude.{List, [], ◌∷◌, ◌++◌, map, Bool, true, false, bytes_eq}
-use Rattle.mv_show.specs.Words.{flat_map, is_same_pack, is_same_batch, pack_key, Master, Upload, Recall as ARecall, Withdraw, LogEntry, Subject, Party, Product, Pack}
-use Rattle.mv_link.specs.declared.item.Item.{Item}
-use Rattle.mv_link.specs.declared.item.Item.TheVariants.{Carried}
+use Rattle.mv_show.specs.Words.{Carried, Item, LogEntry, Master, Pack, Party, Product, Recall as ARecall, Subject, Upload, Withdraw, flat_map, is_same_batch, is_same_pack, pack_key}
 use Rattle.mv_hub.specs.Listing.{distinct}
 use Rattle.mv_show.specs.declared.subject.Kind.{Kind}
 use Rattle.mv_show.specs.declared.subject.Kind.TheVariants as kinds

@@ -16,7 +16,7 @@
 //! ```
 #![tactic(auto)]
 
-mod blocks;
+mod gathering;
 mod lines;
 mod link_lines;
 mod naming;

@@ -1,22 +1,16 @@
-//! Lines that stand ready to be written.
+//! Lines that are gathered.
 
-ghost use Rattle.std.specs.Prelude.{◌≡◌, ◌++◌, ◌∷◌, [], IfErr, OnOk};
+ghost use Rattle.std.specs.Prelude.{◌≡◌, ◌++◌, ◌∷◌, [], OnOk};
 ghost use Rattle.serde_json.specs.Data.{object};
 ghost use Rattle.serde_json.specs.Written.{compact_text};
-ghost use Rattle.mv_engine.specs.Output.{WrotePart};
 ghost use Rattle.mv_engine.specs.Replies.{text_lines};
 ghost use Rattle.mv_format.specs.Writing.{members_of};
-ghost use Rattle.mv_show.specs.inside.Blocks.{Passes};
 
-use mv_lines::{Member, ServeFault, append_object, put_out};
+use mv_lines::{Member, append_object};
 use std::alloc::{AllocError, Global};
-use std::io::Write;
 use std::marker::Model;
 
-/// The bytes at which what is ready goes out.
-const BLOCK_LEN: usize = 65_536;
-
-/// Lines that stand ready to be written, seen as their text.
+/// Lines that are gathered, seen as their text.
 #[derive(Drop)]
 pub(crate) struct Lines {
     /// What memory is got from.
@@ -58,22 +52,6 @@ impl Lines {
     {
         append_object(self.alloc, &mut self.text, members)?;
         self.text.push(b'\n')?;
-        Ok(())
-    }
-
-    /// Writes them, where they are a block or more.
-    pub(crate) fn put_full<W: Write>(&mut self, writer: &mut W) -> Result<(), ServeFault>
-        ensures ok { OnOk result (Passes (W.contents writer.old) (W.contents writer.new)
-            self.old self.new) }
-        ensures fault { IfErr result (λ fault. fault ≡ ServeFault.Write) }
-        ensures err { IfErr result (λ _.
-            WrotePart self.old (W.contents writer.old) (W.contents writer.new)) }
-    {
-        if self.text.len() < BLOCK_LEN {
-            return Ok(());
-        }
-        put_out(writer, self.text.as_slice())?;
-        self.text.clear();
         Ok(())
     }
 }

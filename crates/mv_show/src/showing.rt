@@ -5,9 +5,9 @@ ghost use Rattle.mv_engine.specs.Lines.{pieces};
 ghost use Rattle.mv_engine.specs.Served.{AreAnswered};
 ghost use Rattle.mv_show.specs.Showing.{IsPassed, Shows, Unshown};
 
-use crate::blocks::write_shown;
+use crate::gathering::shown_lines;
 use crate::passing::Passing;
-use mv_lines::{ServeFault, answer_lines};
+use mv_lines::{ServeFault, answer_lines, put_out};
 use std::alloc::Global;
 use std::io::{self, Read, Write};
 
@@ -15,8 +15,8 @@ use std::io::{self, Read, Write};
 /// party has and what its repository holds, and how far each link is; where no system is open, C1. Whether one is open.
 ///
 /// The lines and their limits are as for `serve`. It is the last thing in a process: what is open at the end is not taken
-/// apart, since the process gives all its memory back at once. What stands goes out in blocks of some 64 KiB, so memory may
-/// be refused when some have gone out.
+/// apart, since the process gives all its memory back at once. All that stands is gathered before the first byte goes out, so
+/// that nothing has gone out where memory is refused.
 pub fn show<R: Read, W: Write>(
     alloc: Global,
     reader: &mut R,
@@ -32,7 +32,9 @@ pub fn show<R: Read, W: Write>(
 {
     let mut passing = Passing::new(alloc);
     take_lines(alloc, &mut passing, reader)?;
-    write_shown(alloc, passing.world(), writer)
+    let lines = shown_lines(alloc, passing.world())?;
+    put_out(writer, lines.as_slice())?;
+    Ok(passing.world().is_some())
 }
 
 /// Does with each line what `steps` does.

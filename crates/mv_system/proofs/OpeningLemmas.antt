@@ -1,6 +1,5 @@
 -- The system where nothing has happened.
-use Rattle.mv_system.proofs.Words.{arith, ◌≡◌, ℕ, ◌≤◌, List, [], length, map, ap, All, IsSquare, IsSystem, PARTIES_LIMIT, State, WireState, new_hub, new_site, new_wire, numbers_of, opening, opening-keeps, opening-sound, range_with_len, state_of, table-all}
-use Rattle.mv_machine.specs.Limits.{Bounds, AreBounds}
+use Rattle.mv_system.proofs.Words.{All, AreBounds, Bounds, IsSquare, IsSystem, List, PARTIES_LIMIT, State, WireState, [], ap, arith, length, map, new_hub, new_site, new_wire, numbers_of, opening, opening-keeps, opening-sound, range_with_len, state_of, table-all, ℕ, ◌≡◌, ◌≤◌}
 
 -- the state that a system opens with, whose wires are as they were made
 abbrev opening_with : List (List (List ℕ)) → Bounds → List (List WireState) → State

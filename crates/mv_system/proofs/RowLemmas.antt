@@ -1,11 +1,9 @@
 -- The rows of the list machine, by what the parts answer where they do what is asked.
 use Rattle.std.proofs.lemmas.Grind.{elements}
-use Rattle.mv_system.proofs.Words.{rules, ◌≡◌, ℕ, ◌+◌, ◌-◌, Bool, false, List, [], ◌∷◌, ◌++◌, drop, Some, None, arith, slice_get, IsTrue, unwrap_or, Allows, Apply, Item, Look, Lose, Lost, Meets, Relay, Relayed, Repeat, Repeated, SiteFault, SiteMemory, SiteState, State, apply_fault, are_parties, count_from, is_uplink_full, items_on, look_at, relay_fault, repeat_fault, sent_of, set-get_or, site_of, taken_by, wire_of, with_relayed, with_site, with_taken, with_wire}
+use Rattle.mv_system.proofs.Words.{Allows, Apply, Bool, IsTrue, Item, List, Look, Lose, Lost, Meets, None, Refused, Relay, Relayed, Repeat, Repeated, SiteFault, SiteMemory, SiteState, Some, State, [], apply_fault, are_parties, arith, count_from, drop, false, is_uplink_full, is_wire_full, items_on, look_at, relay_fault, repeat_fault, rules, sent_of, set-get_or, site_of, slice_get, taken_by, unwrap_or, wire_of, with_relayed, with_site, with_taken, with_wire, ℕ, ◌++◌, ◌+◌, ◌-◌, ◌∷◌, ◌≡◌}
 use Rattle.mv_link.specs.declared.incoming.Look.TheVariants as look
-use Rattle.mv_machine.specs.declared.reply.Reply.TheVariants.{Refused}
 use Rattle.mv_machine.specs.declared.reply.Refusal.TheVariants.{WireEmpty}
 use Rattle.mv_machine.specs.Replies.{refusal_of, reply_to}
-use Rattle.mv_machine.specs.State.{is_wire_full}
 use Rattle.mv_machine.specs.Steps.{outcome}
 
 -- a list by its front

@@ -1,12 +1,9 @@
 -- What each change of a part keeps, and what the list machine sees of it.
-use Rattle.mv_system.proofs.Words.{rules, ◌≡◌, ℕ, ◌-◌, ◌<◌, Bool, true, false, List, [], ◌∷◌, ◌++◌, length, get_or, set, sym, ap, ◌∙◌, arith, length-append, drop, ltb-true, IsTrue, slice_get, option_map, Some, None, Option, All-drop, All-push, Allows, AreWiresOf, Change, Entry, Frame, HubState, IsFrameOf, IsSystem, IsWireOf, Message, NUMBER_LIMIT, Reply, SiteState, State, Step, WireState, answers_in, are_parties, ask_fault, cell, cell-map, change-follows, change-keeps, change-sound, close_fault, get_or_read, is_open, is_party, is_uplink_full, items_on, length-map, map-append, new_site, new_wire, numbers_of, numbers_on, put, put-map, routed_count-few, set-get_or, site_of, square-put, stamps_suffice, state_of, step-changes, submitted, wire_at, wire_of, with_submission}
-use Rattle.std.specs.List.{drop-map}
+use Rattle.mv_system.proofs.Words.{All-drop, All-push, Allows, AreWiresOf, Bool, Bounds, Change, Entry, Frame, HubState, IsFrameOf, IsSystem, IsTrue, IsWireOf, List, Message, NUMBER_LIMIT, None, Option, Reply, SiteState, Some, State, Step, WireState, [], answers_in, ap, are_parties, arith, ask_fault, cell, cell-map, change-follows, change-keeps, change-sound, close_fault, drop, drop-map, false, get_or, get_or_read, is_open, is_party, is_uplink_full, is_wire_full, items_on, length, length-append, length-map, ltb-true, map-append, new_site, new_wire, numbers_of, numbers_on, option_map, put, put-map, routed_count-few, rules, set, set-get_or, site_of, slice_get, square-put, stamps_suffice, state_of, step-changes, submitted, sym, true, wire_at, wire_of, with_submission, ℕ, ◌++◌, ◌-◌, ◌<◌, ◌∙◌, ◌∷◌, ◌≡◌}
 use Rattle.std.proofs.lemmas.Option.{slice_get-map, slice_get_within, get_or_from_slice_get}
 use Rattle.std.proofs.lemmas.Bool.Decides.{nat_tests}
 use Rattle.mv_link.proofs.CallerLemmas.{of_longer}
 use Rattle.mv_hub.proofs.CallerLemmas.{link_items-push}
-use Rattle.mv_machine.specs.Limits.{Bounds}
-use Rattle.mv_machine.specs.State.{is_wire_full}
 use Rattle.circular_buffer.specs.Buffer.{buffer, keep_last}
 
 -- the number at a place of a wire is that of the frame there

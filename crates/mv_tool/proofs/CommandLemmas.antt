@@ -1,23 +1,16 @@
 -- The kind of an error of mistaken words, and what a run comes to by its status.
-use Rattle.std.proofs.Common.{◌≡◌, Bool, IsTrue, List, [], ◌∷◌, true, false, if◌then◌else◌, None, Some, ◌⊎◌, inl, inr, ℕ, refl, IfSome, MatchResult, OnOk, IfOk, IfErr, Result, Ok, Err, rules}
+use Rattle.mv_tool.proofs.Words.{Bool, Consumes, Err, IfErr, IfOk, IfSome, IsCanon, IsMistake, IsTrue, Keeps, List, MatchResult, Memory, None, Ok, OnOk, Open, Result, ServeFault, Some, ToldCodes, ToldStrict, [], false, if◌then◌else◌, inl, inr, refl, rules, true, ℕ, ◌∷◌, ◌≡◌, ◌⊎◌}
 use Rattle.std.specs.Prelude.{⊤}
 use Rattle.std.specs.List.{AllByRecursion}
-use Rattle.std.specs.Io.KnownBytes.{Consumes, Keeps}
 use Rattle.std.specs.declared.option.Option.{Option}
 use Rattle.clap.specs.Words.{IsAmong}
 use Rattle.clap.specs.declared.error.kind.ErrorKind.{ErrorKind}
 use Rattle.clap.specs.declared.error.kind.ErrorKind.TheVariants.{OutOfMemory}
-use Rattle.mv_words.specs.Words.{IsMistake}
 use Rattle.mv_words.specs.declared.task.Task.TheVariants as tasks
-use Rattle.mv_engine.specs.declared.fault.ServeFault.{ServeFault}
-use Rattle.mv_engine.specs.declared.fault.ServeFault.TheVariants.{Memory}
 use Rattle.mv_tool.specs.declared.status.Status.{Status}
 use Rattle.mv_tool.specs.declared.status.Status.TheVariants.{Done, Failed, Refused}
 use Rattle.mv_tool.specs.Commands.{Ran, RanAs, RanLines}
-use Rattle.mv_tool.specs.inside.Telling.{ToldCodes, ToldStrict}
 use Rattle.mv_checks.specs.declared.strict.Untaken.{Untaken}
-use Rattle.mv_lines.specs.Canon.{IsCanon}
-use Rattle.mv_lines.specs.Sessions.{Open}
 use Rattle.mv_engine.specs.Replies.{ReplyRule}
 use Rattle.mv_checks.specs.Strict.{IsStrictReply}
 use Rattle.mv_engine.specs.Served.{Ended, EndedAt, Served}
@@ -46,7 +39,7 @@ module _ (input rest old new told_old told_new : Option (List ℕ)) (status : St
   pub ran_lines : {S : Type 0} (rule : ReplyRule S) (before : S) (ended : Result (Unit {0}) ServeFault)
       → MatchResult ended (λ _. status ≡ Done) (λ _. status ≡ Failed)
       → OnOk ended (IfSome input (λ bytes. (after : S) × Served rule before bytes after old new))
-      → IfErr ended (λ fault. (bytes : List ℕ) × Consumes input rest bytes × Ended rule fault before bytes old new)
+      → IfErr ended (λ fault. (bytes : List ℕ) × Consumes input rest bytes × Ended rule fault before bytes rest old new)
       → RanLines input rest old new told_old told_new rule before (λ after well. IsTrue well) status
   ran_lines rule before (Ok done) is ok err =
       let (after, served) = left_by before (λ bytes after. Served rule before bytes after old new) input ok in
@@ -66,7 +59,7 @@ module _ (input rest old new told_old told_new : Option (List ℕ)) (status : St
       → ToldStrict ended untaken status told_old told_new
       → OnOk ended (IfSome input (λ bytes. (after : Open) × Served IsStrictReply (None, None) bytes (after, untaken) old new))
       → IfErr ended (λ fault. (bytes : List ℕ) × Consumes input rest bytes × (after : Open)
-      × EndedAt IsStrictReply fault (None, None) bytes (after, untaken) old new)
+      × EndedAt IsStrictReply fault (None, None) bytes rest (after, untaken) old new)
       → Ran input rest old new told_old told_new tasks.Strict status
   ran_strict (Ok done) None told ok err =
       let (after, served) = left_by None (λ bytes after. Served IsStrictReply (None, None) bytes (after, None) old new) input ok in
@@ -86,7 +79,13 @@ ran_explain input rest old new told_old told_new Done words told unread = (refl,
 ran_explain input rest old new told_old told_new Failed words told unread = inr (Memory, (unread, told.0, told.1))
 ran_explain input rest old new told_old told_new Refused words told unread = (unread, told.2)
 
--- what was answered, and told
+-- what was answered, and that nothing was told
+pub told_nothing : (Answers : Bool → Type 0) (Quiet : Type 0) (ended : Result Bool ServeFault)
+    → IfOk ended Answers → MatchResult ended (λ _. Quiet) (λ _. ⊤) → IfOk ended (λ answer. Answers answer × Quiet)
+told_nothing Answers Quiet (Ok answer) ok quiet = (ok, quiet)
+told_nothing Answers Quiet (Err fault) ok quiet = tt
+
+-- the same of an answer that is what is left
 pub answered_quietly : (Answers : Bool → Type 0) (Quiet : Type 0) (ended : Result Bool ServeFault)
     → IfOk ended Answers → MatchResult ended (λ _. Quiet) (λ _. ⊤)
     → IfOk ended (λ answer. (after : Bool) × ((answer ≡ after) × Quiet) × Answers after)

@@ -1,16 +1,11 @@
 -- What comes of the words that the command line takes.
 use Rattle.std.specs.Prelude.{◌≡◌, ◌⊎◌, ℕ, List, Bool, true, false, IsTrue, Option, None, IfSome, is_none}
-use Rattle.std.specs.Io.KnownBytes.{Appends, Keeps}
-use Rattle.mv_explain.specs.Explained.{first_unknown, lines_of}
+use Rattle.mv_tool.specs.Names.{Appends, Done, Failed, Keeps, Refused, ServeFault, Status, WrotePart, first_unknown, lines_of}
 use Rattle.mv_checks.specs.Checks.{IsChecked}
 use Rattle.mv_checks.specs.Strict.{IsStrictReply}
-use Rattle.mv_engine.specs.declared.fault.ServeFault.{ServeFault}
-use Rattle.mv_tool.specs.declared.status.Status.{Status}
-use Rattle.mv_tool.specs.declared.status.Status.TheVariants.{Done, Failed, Refused}
 use Rattle.mv_lines.specs.Canon.{IsCanon}
 use Rattle.mv_engine.specs.Replies.{ReplyRule}
 use Rattle.mv_engine.specs.Served.{EndedBy, Served}
-use Rattle.mv_engine.specs.Output.{WrotePart}
 use Rattle.mv_lines.specs.Sessions.{IsReply}
 use Rattle.mv_show.specs.Showing.{Shows, Unshown}
 use Rattle.mv_trail.specs.Trail.{IsEvent}
@@ -37,8 +32,8 @@ module _ (input rest old new told_old told_new : Option (List ℕ)) where
 
   -- What came of what was asked for, by the status, with what was read, written and told.
   -- `steps`, `trail` and `canon`: all is well where the whole input was answered. `steps --strict`: where each line was taken; those that were
-  -- not are told. `show`: where a system was opened. `canon --check`: where each line is a message; only a fault is told. `work`: where the
-  -- plan was finished. `explain`: the words are codes, whose lines went out whole, or, by a fault, some first bytes of them.
+  -- not are told. `show`: where a system was opened. `canon --check`: where each line is a message. `work`: where the plan was finished. Of these three
+  -- only a fault is told. `explain`: the words are codes, whose lines went out whole, or, by a fault, some first bytes of them.
   abbrev pub Ran : Task → Status → Type 0
   Ran tasks.Steps = RanLines IsReply None (λ after well. IsTrue well)
   Ran tasks.Trail = RanLines IsEvent None (λ after well. IsTrue well)
@@ -46,10 +41,11 @@ module _ (input rest old new told_old told_new : Option (List ℕ)) where
   Ran tasks.Strict =
       RanLines IsStrictReply (None, None)
       (λ after well. (well ≡ is_none after.1) × IfSome after.1 (λ untaken. WrotePart (untaken_line untaken) told_old told_new))
-  Ran tasks.Show = RanAs (λ is_open. Shows is_open input old new) (λ fault. Unshown fault input rest old new)
+  Ran tasks.Show = RanAs (λ is_open. Shows is_open input old new × Keeps told_old told_new) (λ fault. Unshown fault input rest old new)
   Ran tasks.Check = RanLines IsChecked true (λ after well. (well ≡ after) × Keeps told_old told_new)
   Ran (tasks.Work turns) =
-      RanAs (λ finished. IfSome input (λ bytes. Worked bytes finished (Appends old new))) (λ fault. WorkFailed fault input rest old new)
+      RanAs (λ finished. IfSome input (λ bytes. Worked bytes finished (Appends old new)) × Keeps told_old told_new)
+      (λ fault. WorkFailed fault input rest old new)
   Ran (tasks.Explain words) =
       RanAs (λ well. IsTrue well × Keeps input rest × (first_unknown words ≡ None) × Appends old new (lines_of words))
       (λ fault. Keeps input rest × (first_unknown words ≡ None) × WrotePart (lines_of words) old new)

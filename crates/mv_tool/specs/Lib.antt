@@ -1,3 +1,4 @@
+pub mod Names
 pub mod Statuses
 pub mod Working
 pub mod Telling

@@ -1,7 +1,6 @@
 -- The exit statuses of the program.
 use Rattle.std.specs.Prelude.{ℕ}
-use Rattle.mv_tool.specs.declared.status.Status.{Status}
-use Rattle.mv_tool.specs.declared.status.Status.TheVariants.{Done, Failed, Refused}
+use Rattle.mv_tool.specs.Names.{Done, Failed, Refused, Status}
 
 -- the number that the program ends with
 abbrev pub status_code : Status → ℕ

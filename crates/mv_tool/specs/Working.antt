@@ -1,20 +1,15 @@
 -- What `work` writes.
 use Rattle.std.specs.Prelude.{◌≡◌, ◌↔◌, ℕ, List, ◌∷◌, [], ◌++◌, codes, Bool, false, IsTrue, if◌then◌else◌, Option, Some, None, Ok, Err, IfSome}
-use Rattle.std.specs.Io.KnownBytes.{Keeps}
+use Rattle.mv_tool.specs.Names.{Keeps, Memory, ServeFault, Start, State, Write, WrotePart, report_text}
 use Rattle.serde_json.specs.Written.{compact_text}
-use Rattle.mv_machine.specs.State.{State}
 use Rattle.mv_workers.specs.declared.plan.Plan.{Plan}
 use Rattle.mv_workers.specs.Plans.{KeepsPlan, IsComplete}
-use Rattle.mv_engine.specs.declared.fault.ServeFault.{ServeFault}
-use Rattle.mv_engine.specs.declared.fault.ServeFault.TheVariants.{Write, Memory, Start}
 use Rattle.mv_format.specs.declared.open_fault.OpenFault.TheVariants.{NotOpen}
 use Rattle.mv_format.specs.Openings.{code_of}
-use Rattle.mv_engine.specs.Output.{WrotePart}
 use Rattle.mv_format.specs.ReplyLines.{refused}
 use Rattle.mv_plan.specs.Drafts.{Parts}
 use Rattle.mv_plan.specs.Planning.{Planned}
 use Rattle.mv_plan.specs.Reading.{IsRead, Unread}
-use Rattle.mv_report.specs.Report.{report_text}
 
 -- the last line: whether the plan was finished
 abbrev pub end_line : Bool → List ℕ

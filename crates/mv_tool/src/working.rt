@@ -6,7 +6,7 @@ ghost use Rattle.mv_workers.specs.Plans.{IsSound};
 ghost use Rattle.mv_plan.specs.Planning.{planned_of};
 ghost use Rattle.mv_plan.specs.Drafts.{Parts};
 ghost use Rattle.mv_tool.specs.Working.{end_line, parts_of, IsOutput, Worked, Failed};
-ghost use Rattle.mv_tool.specs.inside.Working.{report_of, output_of};
+ghost use Rattle.mv_tool.specs.inside.Telling.{report_of, output_of};
 
 use mv_ends::Outcome;
 use mv_lines::{OpenFault, ServeFault, put_out, refusal_text};

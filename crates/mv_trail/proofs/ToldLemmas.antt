@@ -1,7 +1,5 @@
 -- The record, each log and what each party submitted grow by what events tell.
-use Rattle.std.proofs.lemmas.Grind.{elements}
-use Rattle.mv_trail.proofs.Words.{◌≡◌, ℕ, ◌+◌, ◌<◌, ◌==◌, false, List, [], ◌∷◌, ◌++◌, map, length, set, get_or, slice_get, Option, Some, None, refl, ap, ◌∙◌, append-nil, arith, option_map, option_to_list, length-append, if◌then◌else◌, get_or-set_same, get_or-set_other, rules, submitted_change, asked_change, routed_change, closed_change, relayed, repeated, applied_change, dropped, nothing, common_steps, nat_tests, Message, is_query_or_answer, Item, answer_after, entry_from, answer_number, new_site, slice_get-behind, SiteState, State, submissions_of, log_of, site_of, is_party, with_site, Event, last_of, entry_told, applied_told, submission_told, unless_answer}
-use Rattle.std.specs.List.{enumerate_from}
+use Rattle.mv_trail.proofs.Words.{Event, Item, List, Message, None, Option, SiteState, Some, State, [], answer_after, answer_number, ap, append-nil, applied_change, applied_told, arith, asked_change, closed_change, common_steps, dropped, elements, entry_from, entry_told, enumerate_from, false, get_or, get_or-set_other, get_or-set_same, if◌then◌else◌, is_party, is_query_or_answer, last_of, length, length-append, log_of, map, nat_tests, new_site, nothing, option_map, option_to_list, refl, relayed, repeated, routed_change, rules, set, site_of, slice_get, slice_get-behind, submission_told, submissions_of, submitted_change, unless_answer, with_site, ℕ, ◌++◌, ◌+◌, ◌<◌, ◌==◌, ◌∙◌, ◌∷◌, ◌≡◌}
 use Rattle.std.proofs.lemmas.List.{length-map, map-append, set_past}
 use Rattle.mv_repository.specs.declared.effect.Effect.{Effect}
 use Rattle.mv_repository.specs.declared.entry.LogEntry.{LogEntry}

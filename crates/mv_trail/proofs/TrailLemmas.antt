@@ -1,6 +1,5 @@
 -- The events of a run tell the record, the logs and the submissions.
-use Rattle.mv_trail.proofs.Words.{◌≡◌, ℕ, zero, suc, ◌+◌, List, [], ◌∷◌, ◌++◌, map, length, Some, None, refl, sym, ap, ◌∙◌, append-nil, append_assoc, get_or, arith, rules, option_map, option_to_list, Option, ⊤, nat_tests, Step, Reply, State, opening, submissions_of, log_of, IsSound, change-sound, opening-sound, step-changes, SiteState, new_site, Answered, Line, AreReplies, said_texts, Open, IsTaken, Event, event_of, AreTold, entry_told, applied_told, submission_told, unless_answer, EventsAreWritten, RecordIsTold, LogsAreTold, SubmissionsAreTold, IsEvent, event_text}
-use Rattle.std.specs.List.{enumerate_from, filter_map, range_with_len}
+use Rattle.mv_trail.proofs.Words.{Answered, AreReplies, AreTold, Event, EventsAreWritten, IsEvent, IsSound, IsTaken, Line, List, LogsAreTold, None, Open, Option, RecordIsTold, Reply, SiteState, Some, State, Step, SubmissionsAreTold, [], ap, append-nil, append_assoc, applied_told, arith, change-sound, entry_told, enumerate_from, event_of, event_text, filter_map, get_or, length, log_of, map, nat_tests, new_site, opening, opening-sound, option_map, range_with_len, refl, rules, said_texts, step-changes, submission_told, submissions_of, suc, sym, unless_answer, zero, ℕ, ⊤, ◌++◌, ◌+◌, ◌∙◌, ◌∷◌, ◌≡◌, numbered}
 use Rattle.mv_machine.specs.Limits.{Bounds}
 use Rattle.mv_machine.specs.Runs.{Allows}
 use Rattle.mv_format.specs.declared.answered.Answered.TheVariants as answers
@@ -26,9 +25,9 @@ opened_as before after parties limits count none is = rw is (opened parties limi
 came : (before : Open) (line : List ℕ) (answered : Answered) (after : Open) → IsTaken before line answered after → Came before answered after
 came before line answered after taken = grind (arith, nat_tests, not_taken, opened_as, stepped, unread)
 
-told-first : {X : Type 0} (tell : Event → Option X) (event : Option Event) (rest : List Event)
-    → filter_map tell (option_to_list event ++ rest) ≡ told tell event ++ filter_map tell rest
-told-first tell event rest = grind (arith, nat_tests)
+told-first : {X : Type 0} (tell : Event → Option X) (line : ℕ) (event : Option Event) (rest : List (ℕ × Event))
+    → filter_map (λ (it : ℕ × Event). tell it.1) (numbered line event ++ rest) ≡ told tell event ++ filter_map (λ (it : ℕ × Event). tell it.1) rest
+told-first tell line event rest = grind (arith, nat_tests)
 
 -- what holds of what is open, if something is
 abbrev OfOpen : (State → Type 0) → Open → Type 0
@@ -51,16 +50,17 @@ module _ {X : Type 0} (tell : Event → Option X) (kept : State → List X)
       → kept_of kept after ≡ kept_of kept before ++ told tell (event_of answered after)
   line-told before answered after came sound = grind (arith, nat_tests, IsSound, append-nil, grows, step-changes)
 
-  lines-told : (lines : List (List ℕ)) (events : List Event) (before after : Open) → OfOpen IsSound before → AreTold before lines events after
-      → kept_of kept after ≡ kept_of kept before ++ filter_map tell events
+  lines-told : (lines : List Line) (events : List (ℕ × Event)) (before after : Open) → OfOpen IsSound before → AreTold before lines events after
+      → kept_of kept after ≡ kept_of kept before ++ filter_map (λ (it : ℕ × Event). tell it.1) events
   lines-told [] events before after sound are = search (rules, append-nil)
   lines-told (line ∷ lines) events before after sound are =
-      let first = came before line are.0 are.1 are.3 in
+      let first = came before line.bytes are.0 are.1 are.3 in
       let rest = lines-told lines are.2 are.1 after (came-sound before are.0 are.1 first sound) are.5 in
       search (rules, rest, line-told before are.0 are.1 first sound, append_assoc, told-first, are.4)
 
   -- the events of a whole run tell all that is kept of its last state
-  pub run-told : (lines : List (List ℕ)) (events : List Event) (st : State) → AreTold None lines events (Some st) → filter_map tell events ≡ kept st
+  pub run-told : (lines : List Line) (events : List (ℕ × Event)) (st : State) → AreTold None lines events (Some st)
+      → filter_map (λ (it : ℕ × Event). tell it.1) events ≡ kept st
   run-told lines events st are = sym (lines-told lines events None (Some st) tt are)
 
 pub record_is_told : RecordIsTold
@@ -85,28 +85,18 @@ submissions_are_told party =
     (λ parties limits. none-at (λ site. enumerate_from 1 (map unless_answer site.submissions)) (λ party. new_site party (length parties) limits.submissions) (λ _. refl) refl 0 (length parties) party)
     (λ parties limits. refl) (λ st sound. submissions_told party st sound.well_formed)
 
--- the events that are each told with the number of a line, and their texts
-abbrev events_in : List (ℕ × Event) → List Event
-events_in told = map (λ (it : ℕ × Event). it.1) told
-
+-- the texts of events, each with the number of its line
 abbrev texts_in : List (ℕ × Event) → List (List ℕ)
-texts_in told = map (λ (it : ℕ × Event). event_text it.0 it.1) told
-
--- an event, where there is one, with the number of its line
-abbrev numbered : ℕ → Option Event → List (ℕ × Event)
-numbered line event = map (λ it. (line, it)) (option_to_list event)
+texts_in events = map (λ (it : ℕ × Event). event_text it.0 it.1) events
 
 -- what is written to a line and to others is the text of its event and those of theirs
 text-first : (line : ℕ) (event : Option Event) (texts : List (Option (List ℕ))) (others : List (ℕ × Event)) → said_texts texts ≡ texts_in others
     → said_texts (option_map (event_text line) event ∷ texts) ≡ texts_in (numbered line event ++ others)
 text-first line event texts others are = grind (arith, nat_tests)
 
-event-first : (line : ℕ) (event : Option Event) (others : List (ℕ × Event)) → events_in (numbered line event ++ others) ≡ option_to_list event ++ events_in others
-event-first line event others = grind (arith, nat_tests)
-
 -- what is written to lines are the texts of their events
 texts-told : (before : Open) (lines : List Line) (texts : List (Option (List ℕ))) (after : Open) → AreReplies IsEvent before lines texts after
-    → (pairs : List (ℕ × Event)) × (said_texts texts ≡ texts_in pairs) × AreTold before (map (λ (line : Line). line.bytes) lines) (events_in pairs) after
+    → (events : List (ℕ × Event)) × (said_texts texts ≡ texts_in events) × AreTold before lines events after
 texts-told before [] [] after are = ([], refl, (refl, are))
 texts-told before [] (text ∷ texts) after are = absurd are
 texts-told before (line ∷ lines) [] after are = absurd are
@@ -115,7 +105,7 @@ texts-told before (line ∷ lines) (text ∷ texts) after (between, (answered, t
     let event = event_of answered between in (
       numbered line.number event ++ others.0,
       ap (λ t. said_texts (t ∷ texts)) is ∙ text-first line.number event texts others.0 others.1,
-      (answered, between, events_in others.0, taken, event-first line.number event others.0, others.2),
+      (answered, between, others.0, taken, refl, others.2),
     )
 
 pub events_are_written : EventsAreWritten

@@ -14,10 +14,11 @@ pub use Rattle.mv_message.specs.declared.message.Message.{Message}
 pub use Rattle.mv_party.specs.Site.{SiteState, answer_number, entry_from, new_site}
 pub use Rattle.mv_repository.specs.Verdict.{answer_after}
 pub use Rattle.mv_trail.specs.Events.{Event, applied, event_of, event_of_step, last_of, routed, routing}
-pub use Rattle.mv_trail.specs.Laws.{AreTold, EventsAreWritten, LogsAreTold, RecordIsTold, SubmissionsAreTold, applied_told, entry_told, submission_told, unless_answer}
+pub use Rattle.mv_trail.specs.Laws.{AreTold, EventsAreWritten, LogsAreTold, RecordIsTold, SubmissionsAreTold, applied_told, entry_told, numbered, submission_told, unless_answer}
 pub use Rattle.mv_trail.specs.Trail.{IsEvent, event_text}
 pub use Rattle.mv_trail.specs.inside.Trail.{Says, Tells}
 pub use Rattle.std.proofs.Common.{Bool, Err, IfErr, IfOk, IsTrue, List, None, Ok, Option, Result, Some, [], ap, append-nil, append_assoc, arith, false, get_or, get_or-set_other, get_or-set_same, if◌then◌else◌, inr, length, length-append, map, option_and_then, option_map, option_to_list, refl, rules, set, slice_get, subst, suc, sym, zero, ℕ, ◌++◌, ◌+◌, ◌<◌, ◌==◌, ◌∙◌, ◌∷◌, ◌≡◌}
 pub use Rattle.std.proofs.lemmas.Bool.Decides.{nat_tests}
-pub use Rattle.std.proofs.lemmas.Grind.{common_steps}
+pub use Rattle.std.proofs.lemmas.Grind.{common_steps, elements}
+pub use Rattle.std.specs.List.{enumerate_from, filter_map, range_with_len}
 pub use Rattle.std.specs.Prelude.{⊤}

@@ -8,18 +8,21 @@ use Rattle.mv_engine.specs.Replies.{IsReplies, text_lines}
 use Rattle.mv_trail.specs.Events.{Event, submitted, asked, routed, applied, closed, event_of}
 use Rattle.mv_trail.specs.Trail.{IsEvent, event_text}
 
--- these lines are taken one after another, and these are their events, in order
-abbrev pub AreTold : Open → List (List ℕ) → List Event → Open → Type 0
+-- an event, where there is one, with the number of its line
+abbrev pub numbered : ℕ → Option Event → List (ℕ × Event)
+numbered line event = map (λ it. (line, it)) (option_to_list event)
+
+-- these lines are taken one after another, and these are their events, in order, each with the number of its line
+abbrev pub AreTold : Open → List Line → List (ℕ × Event) → Open → Type 0
 AreTold before [] events after = (events ≡ []) × (after ≡ before)
 AreTold before (line ∷ lines) events after =
-    (answered : Answered) × (between : Open) × (rest : List Event) × IsTaken before line answered between
-    × (events ≡ option_to_list (event_of answered between) ++ rest) × AreTold between lines rest after
+    (answered : Answered) × (between : Open) × (rest : List (ℕ × Event)) × IsTaken before line.bytes answered between
+    × (events ≡ numbered line.number (event_of answered between) ++ rest) × AreTold between lines rest after
 
 -- What is written to lines by the rule of the trail are the texts of their events, in order, each with a line feed and the number of its line.
 abbrev pub EventsAreWritten : Type 0
 EventsAreWritten = (before : Open) (lines : List Line) (out : List ℕ) (after : Open) → IsReplies IsEvent before lines out after
-    → (told : List (ℕ × Event)) × (out ≡ text_lines (map (λ it. event_text it.0 it.1) told))
-    × AreTold before (map (λ line. line.bytes) lines) (map (λ it. it.1) told) after
+    → (events : List (ℕ × Event)) × (out ≡ text_lines (map (λ it. event_text it.0 it.1) events)) × AreTold before lines events after
 
 -- the entry of the record that an event tells, with its stamp
 abbrev pub entry_told : Event → Option (ℕ × Entry)
@@ -46,16 +49,16 @@ unless_answer message = Some message
 
 -- the entries that the events of a run tell are the hub's record, in its order, each with its place
 abbrev pub RecordIsTold : Type 0
-RecordIsTold = (lines : List (List ℕ)) (events : List Event) (st : State) → AreTold None lines events (Some st)
-    → filter_map entry_told events ≡ enumerate_from 1 st.hub.entries
+RecordIsTold = (lines : List Line) (events : List (ℕ × Event)) (st : State) → AreTold None lines events (Some st)
+    → filter_map (λ it. entry_told it.1) events ≡ enumerate_from 1 st.hub.entries
 
 -- the entries that the events of a run tell of a party are the log of its repository, in its order
 abbrev pub LogsAreTold : Type 0
-LogsAreTold = (party : ℕ) (lines : List (List ℕ)) (events : List Event) (st : State) → AreTold None lines events (Some st)
-    → filter_map (applied_told party) events ≡ log_of st party
+LogsAreTold = (party : ℕ) (lines : List Line) (events : List (ℕ × Event)) (st : State) → AreTold None lines events (Some st)
+    → filter_map (λ it. applied_told party it.1) events ≡ log_of st party
 
 -- The submissions that the events of a run tell of a party are all that it submitted, in its order, each with its number; an answer by
 -- its number alone.
 abbrev pub SubmissionsAreTold : Type 0
-SubmissionsAreTold = (party : ℕ) (lines : List (List ℕ)) (events : List Event) (st : State) → AreTold None lines events (Some st)
-    → filter_map (submission_told party) events ≡ enumerate_from 1 (map unless_answer (submissions_of st party))
+SubmissionsAreTold = (party : ℕ) (lines : List Line) (events : List (ℕ × Event)) (st : State) → AreTold None lines events (Some st)
+    → filter_map (λ it. submission_told party it.1) events ≡ enumerate_from 1 (map unless_answer (submissions_of st party))

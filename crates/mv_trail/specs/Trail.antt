@@ -1,7 +1,6 @@
 -- What is written to a line: the text of its event, or nothing.
 use Rattle.std.specs.Prelude.{◌≡◌, ℕ, List, Option, option_map}
-use Rattle.mv_trail.specs.Words.{Line, Open, IsTaken, Answered}
-use Rattle.serde_json.specs.Written.{compact_text}
+use Rattle.mv_trail.specs.Words.{Answered, IsTaken, Line, Open, compact_text}
 use Rattle.mv_trail.specs.Events.{Event, event_of}
 use Rattle.mv_trail.specs.EventValues.{event_value}
 

@@ -16,7 +16,8 @@ pub fn answer_text<S: Answering>(
 ) -> Result<(), ServeFault>
     ensures ok { OnOk result (Served S.replies answering.old text.now answering.new (Some replies.old.items) (Some replies.new.items)) }
     ensures err { IfErr result (λ fault. (taken : List ℕ) × (left : List ℕ) × (text.now ≡ taken ++ left)
-        × EndedAt S.replies fault answering.old taken answering.new (Some replies.old.items) (Some replies.new.items)) }
+        × EndedAt S.replies fault answering.old taken (Some left) answering.new
+        (Some replies.old.items) (Some replies.new.items)) }
 {
     let mut reader = text;
     answer_lines(alloc, answering, &mut reader, replies)

@@ -2,7 +2,7 @@
 
 ghost use Rattle.std.specs.Prelude.{◌≡◌, ℕ, List, map, None, IfOk, IfSome};
 ghost use Rattle.std.specs.List.{enumerate_from, filter_map};
-ghost use Rattle.mv_engine.specs.Lines.{lines_of, pieces};
+ghost use Rattle.mv_engine.specs.Lines.{lines_from, pieces};
 ghost use Rattle.mv_engine.specs.Replies.{text_lines};
 ghost use Rattle.mv_lines.specs.Sessions.{Open};
 ghost use Rattle.mv_trail.specs.Events.{Event};
@@ -18,8 +18,8 @@ use std::alloc::Global;
 pub fn trail_of(alloc: Global, lines: &[u8]) -> Result<Vec<u8>, ServeFault>
     ensures { IfOk result (λ texts. (told : List (ℕ × Event)) × (after : Open)
         × (texts.items ≡ text_lines (map (λ it. event_text it.0 it.1) told))
-        × AreTold None (lines_of (pieces lines.now)) (map (λ it. it.1) told) after
-        × IfSome after (λ st. filter_map entry_told (map (λ it. it.1) told) ≡ enumerate_from 1 st.hub.entries)) }
+        × AreTold None (lines_from 0 (pieces lines.now)) told after
+        × IfSome after (λ st. filter_map (λ it. entry_told it.1) told ≡ enumerate_from 1 st.hub.entries)) }
 {
     laws::events_are_written();
     laws::record_is_told();

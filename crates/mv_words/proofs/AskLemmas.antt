@@ -1,14 +1,9 @@
 -- Words that the command line takes, and what they ask for.
-use Rattle.std.proofs.Common.{◌≡◌, ◌<◌, ℕ, List, [], ◌∷◌, true, false, None, Some, refl, ap, inl, inr, arith}
+use Rattle.mv_words.proofs.Names.{HasNoMinus, IsNumeral, List, None, OptionAsks, Some, Unsigned, WritesTurns, [], ap, arith, clap_on_literals, digits_value, false, inl, inr, refl, strip_byte, true, without_leading_plus, ℕ, ◌<◌, ◌∷◌, ◌≡◌}
 use Rattle.std.specs.Str.{bytes_eq}
-use Rattle.std.specs.Str.Parse.{IsNumeral, digits_value, without_leading_plus}
 use Rattle.std.proofs.lemmas.Bool.{ne_eqb}
-use Rattle.clap.specs.Lexer.{strip_byte}
 use Rattle.clap.specs.ValueTests.{accepts}
-use Rattle.clap.specs.declared.builder.value_parser.ValueParser.TheVariants.{Unsigned}
 use Rattle.clap.proofs.ValueTestLemmas.{Accepts-accepts}
-use Rattle.clap.proofs.OnLiterals.{clap_on_literals}
-use Rattle.mv_words.specs.Words.{HasNoMinus, OptionAsks, WritesTurns}
 
 -- the option takes a number of turns
 turns_pass : (turns : ℕ) (text : List ℕ) → WritesTurns turns text → accepts false (Unsigned 0 4294967295) text ≡ true

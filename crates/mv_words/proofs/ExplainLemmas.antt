@@ -1,16 +1,12 @@
 -- The words of `explain`.
 use Rattle.std.proofs.Common.{◌≡◌, ◌<◌, ◌++◌, ◌∷◌, ◌^◌, ℕ, List, [], codes, false, None, Some, refl, ap, sym, append-nil, append_assoc, length, arith, fold}
 use Rattle.std.specs.List.{AllByRecursion}
-use Rattle.clap.specs.Lexer.{usize_max}
+use Rattle.mv_words.proofs.Names.{ExplainAsks, HasNoMinus, String, clap_on_literals, code_rule, command_line, new_app, usize_max, with_rule}
 use Rattle.clap.specs.Walk.{Names, Text, Walk, nothing_held, positional, walk, walk_from, walked}
 use Rattle.clap.specs.Faults.{turn_fault, walk_fault}
 use Rattle.clap.specs.Kinds.{range_kinds, values_kinds}
-use Rattle.clap.specs.declared.builder.value_parser.ValueParser.TheVariants.{String}
 use Rattle.clap.specs.Simple.{Shape, built, built_leaf, entered, names_of}
-use Rattle.clap.proofs.OnLiterals.{clap_on_literals}
 use Rattle.mv_words.proofs.AskLemmas.{no_option}
-use Rattle.mv_words.specs.Words.{code_rule, command_line, ExplainAsks, HasNoMinus}
-use Rattle.clap.specs.Words.{new_app, with_rule}
 
 -- a walk that stopped at a subcommand
 abbrev stopped_walk : Walk → Text → List Text → Walk

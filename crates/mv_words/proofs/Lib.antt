@@ -1,3 +1,4 @@
+pub mod Names
 pub mod ParseLemmas
 pub mod AskLemmas
 pub mod ExplainLemmas

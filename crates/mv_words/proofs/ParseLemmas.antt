@@ -1,13 +1,9 @@
 -- What a parse by the command line met, and the number of turns that it reads.
-use Rattle.std.proofs.Common.{◌≡◌, ℕ, List, true, None, Some, refl, ap, ◌∙◌, option_map, Result}
-use Rattle.std.specs.Str.Parse.{ParsesUnsigned, ExplainsUnsignedError, HasUnsignedDigitsIfOk}
+use Rattle.mv_words.proofs.Names.{App, ExplainsUnsignedError, FailsBy, HasUnsignedDigitsIfOk, List, None, ParsesUnsigned, ReadsOne, Result, Some, WritesTurns, all_of, ap, clap_on_literals, command_line, fault_of, is_simple_and_free, matched_of, one_of, one_text, option_map, raw_values, refl, rows_of, true, ℕ, ◌∙◌, ◌≡◌}
 use Rattle.std.specs.declared.option.Option.{Option}
 use Rattle.clap.specs.declared.parser.matches.Found.{Found}
 use Rattle.clap.proofs.WalkLemmas.{one_text-rows, raw_values-rows}
-use Rattle.clap.specs.Words.{App, ReadsOne, all_of, matched_of, one_of, one_text, raw_values, rows_of, is_simple_and_free, fault_of, FailsBy}
-use Rattle.clap.proofs.OnLiterals.{clap_on_literals}
 use Rattle.clap.specs.declared.error.Error.{Error}
-use Rattle.mv_words.specs.Words.{command_line, WritesTurns}
 
 -- a parse fails by the faults of the command line, which is a simple one, and none of its arguments has a rule on another
 pub fails_by : {T : Type 0} (line : App) (words : List (List ℕ)) (r : Result T Error) → line ≡ command_line

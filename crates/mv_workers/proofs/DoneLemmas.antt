@@ -1,10 +1,8 @@
 -- Lengths decide what is carried out.
 use Rattle.std.proofs.lemmas.Grind.{common_steps}
-use Rattle.mv_workers.proofs.Words.{◌≡◌, ◌<◌, ◌+◌, ℕ, Bool, List, ◌∷◌, length, cond, eqb, refl, arith, append-nil, length-append, nat_tests, count_by, Item, LogEntry, items_from, State, submissions_of, log_of, IsLawful}
+use Rattle.mv_workers.proofs.Words.{Bool, IsLawful, IsPrefix, Item, List, LogEntry, State, append-nil, arith, cond, count_by, eqb, items_from, length, length-append, link_items, log_of, nat_tests, refl, submissions_of, ℕ, ◌+◌, ◌<◌, ◌∷◌, ◌≡◌}
 use Rattle.std.proofs.lemmas.List.Recursion.{is_count_by}
-use mathlib.Core.List.{IsPrefix}
 use Rattle.mv_hub.specs.Record.{routed_from}
-use Rattle.mv_hub.specs.Links.{link_items}
 
 -- a front that is as long as the whole is the whole
 pub front-whole : {A : Type 0} (front whole : List A) → IsPrefix front whole → length front ≡ length whole → front ≡ whole

@@ -1,16 +1,12 @@
 -- What a plan is beside what its run leaves.
-use Rattle.mv_workers.proofs.Words.{◌≡◌, ◌∙◌, ◌<◌, ℕ, zero, suc, Bool, true, false, List, [], ◌∷◌, length, map, get_or, refl, sym, ap, subst, arith, ◌↔◌, ◌&&◌, IsTrue, IsFalse, nat_tests, ext_get_or, get_or-map, length-map, SiteState, new_site, State, submissions_of, IsLawful, RepoEnd, HubSeat, repo_seat, own_among, AllUnused, own_of, IsCarried, AreBegun, IsCrewOf, IsBack}
-use Rattle.std.proofs.lemmas.List.Elements.{AllZip-get_or}
+use Rattle.mv_workers.proofs.Words.{AllUnused, AllZip-get_or, AreBegun, Bool, HubSeat, IsBack, IsCarried, IsComplete, IsCrewOf, IsFalse, IsLawful, IsPrefix, IsSound, IsTrue, KeepsPlan, List, RepoEnd, SiteState, State, [], ap, arith, ext_get_or, false, get_or, get_or-map, length, length-map, map, nat_tests, new_site, opening, own_among, own_of, refl, repo_seat, site_of, submissions_of, subst, suc, sym, true, zero, ℕ, ◌&&◌, ◌<◌, ◌↔◌, ◌∙◌, ◌∷◌, ◌≡◌}
 use Rattle.mv_machine.specs.Limits.{Bounds}
-use Rattle.mv_machine.specs.State.{opening, site_of}
 use Rattle.mv_machine.proofs.CallerLemmas.{opening-site}
 use Rattle.mv_ends.specs.declared.hub_end.HubEnd.{HubEnd}
 use Rattle.mv_ends.specs.Whole.{AreEnds, sites_of, state_of}
 use Rattle.mv_workers.specs.declared.plan.Plan.{Plan}
 use Rattle.mv_workers.specs.declared.crew.Crew.{Crew}
 use Rattle.mv_workers.specs.declared.crew.CrewEnds.{CrewEnds}
-use mathlib.Core.List.{IsPrefix}
-use Rattle.mv_workers.specs.Plans.{IsSound, KeepsPlan, IsComplete}
 
 -- ends where nothing has happened are those of these parties, by these limits
 pub fresh_parties : (parties : List (List (List ℕ))) (limits : Bounds) (hub : HubEnd) (repos : List RepoEnd) → state_of hub repos ≡ opening parties limits → (hub.hub.parties ≡ parties) × (hub.limits ≡ limits)

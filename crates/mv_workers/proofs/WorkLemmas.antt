@@ -1,7 +1,5 @@
 -- What a party submits of its own, and of which list that is a front.
-use Rattle.mv_workers.proofs.Words.{◌≡◌, ◌<◌, get_or, ℕ, Bool, List, [], ◌∷◌, ◌++◌, length, length-append, append-nil, not, sym, ap, ◌∙◌, arith, ◌==◌, ◌↔◌, IsTrue, false, list_any, nat_tests, length-map, get_or-map, nil_from_length, Message, Answer, answers_in, lists_of, own_among, is_answer}
-use mathlib.Core.List.{IsPrefix}
-use Rattle.std.proofs.lemmas.List.Elements.{filter-append}
+use Rattle.mv_workers.proofs.Words.{Answer, Bool, IsPrefix, IsTrue, List, Message, [], answers_in, ap, append-nil, arith, false, filter-append, get_or, get_or-map, is_answer, length, length-append, length-map, list_any, lists_of, nat_tests, nil_from_length, not, own_among, sym, ℕ, ◌++◌, ◌<◌, ◌==◌, ◌↔◌, ◌∙◌, ◌∷◌, ◌≡◌}
 use Rattle.std.specs.declared.alloc.Global.{Global}
 use Rattle.std.specs.declared.vec.Vec.{Vec}
 

@@ -1,10 +1,13 @@
--- What the taking of bytes makes ready and writes: words of the inside.
-use Rattle.std.specs.Prelude.{◌≡◌, ℕ, ◌+◌, List, length, Option}
+-- What the taking of bytes makes ready, and where it stops.
+use Rattle.std.specs.Prelude.{◌≡◌, ℕ, ◌+◌, List, ◌++◌, length}
 use Rattle.mv_engine.specs.declared.fault.ServeFault.{ServeFault}
-use Rattle.mv_engine.specs.declared.fault.ServeFault.TheVariants.{Write}
+use Rattle.mv_engine.specs.Served.{StopsAt, AreAnswered}
 use Rattle.mv_engine.specs.Lines.{whole_from, rest_from}
 use Rattle.mv_engine.specs.Replies.{ReplyRule}
-use Rattle.mv_engine.specs.Served.{AreAnswered, Wrote, StoppedAt, WroteAt}
+
+-- the taking of bytes of a line stopped among them
+abbrev pub StopsIn : ServeFault → List ℕ → ℕ → List ℕ → Type 0
+StopsIn fault begun count bytes = (good : List ℕ) × (bad : List ℕ) × (bytes ≡ good ++ bad) × StopsAt fault begun count good bad
 
 -- The bytes were taken, and `out` are the replies to the lines that end in them, which keep the limits. Before them the line
 -- had `begun` and `count` lines had come; behind them `begun'` and `count'`.
@@ -13,10 +16,3 @@ pub record Taken {S : Type 0} (rule : ReplyRule S) (begun : List ℕ) (count : �
   pub rest : begun' ≡ rest_from begun bytes
   pub counted : count' ≡ count + length (whole_from begun bytes)
   pub answered : AreAnswered rule count before (whole_from begun bytes) after out
-
--- what was written where a fault ended the taking of these bytes, or the writing of the replies to these pieces, and what answers is left
--- in the state `after`
-abbrev pub Halted : {S : Type 0} → ReplyRule S → ServeFault → List ℕ → ℕ → S → List ℕ → List (List ℕ) → S
-    → Option (List ℕ) → Option (List ℕ) → Type 0
-Halted rule Write begun count before bytes ps after old new = WroteAt rule count before ps after old new
-Halted rule fault begun count before bytes ps after old new = Wrote old new (StoppedAt rule fault begun count before bytes ps after)

@@ -1,17 +1,42 @@
--- What stands in the fields of a line, as they are met in its object; and the tokens of JSON that it is read from.
-use Rattle.std.specs.Prelude.{◌≡◌, ◌<◌, ◌^◌, ℕ, List, Result, Ok}
-use Rattle.mv_format.specs.Words.{Data, GivesOr, LineFault, LineField, Memory, Request, Token, read_message, string, view, whole}
+-- What stands in the fields of a line, as they are met in its object; the tokens of JSON that it is read from; and what reading lists
+-- of markets gives, one member after the other.
+use Rattle.std.specs.Prelude.{ℕ, if◌then◌else◌, is_some, List, [], ◌∷◌, ◌++◌, Result, Ok, Err, ok_or, ◌≡◌, ◌<◌, ◌^◌}
+use Rattle.mv_format.specs.Words.{Data, Items, Kind, LineFault, LineField, Pack, as_array, as_list, as_str, each_of, item, map_err, no_items, read_market, ◌and_then◌, GivesOr, Memory, Request, Token, read_message, string, view, whole}
+use Rattle.mv_format.specs.Reading.{member_at, message_at, number_at, text_at}
 use Rattle.mv_json.specs.Met.{BeginWith}
-use Rattle.mv_json.specs.inside.Met.{HasMet}
+use Rattle.mv_json.specs.inside.Parts.{HasMet}
 use Rattle.mv_format.specs.declared.line_part.LineEntry.{LineEntry}
 use Rattle.mv_format.specs.declared.line_part.LineObject.{LineObject}
 use Rattle.mv_format.specs.declared.line_part.LinePart.{LinePart}
 use Rattle.mv_format.specs.Fields.{field_name}
-use Rattle.mv_format.specs.Reading.{message_at, number_at, text_at}
 use Rattle.mv_format.specs.Requests.{read_request}
 use Rattle.mv_format.specs.declared.field.LineField.TheVariants as fields
 use Rattle.mv_format.specs.declared.line_part.LineObject.TheVariants as objects
 use Rattle.mv_format.specs.declared.line_part.LinePart.TheVariants as parts
+
+-- what each member of a list is read as, in its order, or the fault of the first bad one
+abbrev pub read_all : {A : Type 0} → (Data → Result A LineFault) → Items → Result (List A) LineFault
+read_all read no_items = Ok []
+read_all read (item value items) = read value and_then λ first. read_all read items and_then λ rest. Ok (first ∷ rest)
+
+-- a market of a list
+abbrev pub market_item : LineField → Data → Result (List ℕ) LineFault
+market_item field value = ok_or (as_str value) (Kind field) and_then λ text. map_err (Pack field) (read_market text)
+
+-- the markets of a member that is a list
+abbrev pub market_list : LineField → Data → Result (List (List ℕ)) LineFault
+market_list field value = ok_or (as_array value) (Kind field) and_then read_all (market_item field)
+
+-- the lists of markets of a field, whose members are looked at twice: whether all are lists of texts, and then which markets
+unfoldable pub walked_lists_at : LineField → Data → Result (List (List (List ℕ))) LineFault
+walked_lists_at field value =
+    member_at field value and_then λ found.
+    ok_or (as_array found) (Kind field) and_then λ items.
+    if is_some (each_of (as_list as_str) items) then read_all (market_list field) items else Err (Kind field)
+
+-- what reading gives, behind what was read before
+abbrev pub with_front : {A : Type 0} → List A → Result (List A) LineFault → Result (List A) LineFault
+with_front front reading = reading and_then λ rest. Ok (front ++ rest)
 
 -- what a value says
 abbrev pub IsPart : Data → LinePart → Type 0

@@ -3,7 +3,7 @@
 ghost use Rattle.std.specs.Prelude.{◌≡◌, ◌++◌, ◌∷◌, [], Contains, OnOk, OnErr, IfOk, if◌then◌else◌};
 ghost use Rattle.mv_hub.specs.Words.{BatchKey as ABatch, is_same_batch};
 ghost use Rattle.mv_hub.specs.BatchLinks.{linked_to, IsDescendant, IsAscendingList};
-ghost use Rattle.mv_hub.specs.inside.Tables.{linked_in, Gathers};
+ghost use Rattle.mv_hub.specs.inside.Kept.{linked_in, Gathers};
 
 use crate::trail::AuditTrail;
 use indexmap::{IndexMap, IndexSet};

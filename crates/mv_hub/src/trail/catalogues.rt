@@ -4,7 +4,7 @@ ghost use Rattle.std.specs.Prelude.{◌≡◌, None, Some, OnOk, OnErr};
 ghost use Rattle.std.specs.Option.{option_copied};
 ghost use Rattle.mv_hub.specs.Catalogue.{catalogue_of};
 ghost use Rattle.mv_hub.specs.Record.{product_of};
-ghost use Rattle.mv_hub.specs.inside.Tables.{Notes, no_catalogue, catalogue_after, listing_of};
+ghost use Rattle.mv_hub.specs.inside.Kept.{Notes, no_catalogue, catalogue_after, listing_of};
 
 use crate::trail::AuditTrail;
 use crate::{Catalogue, MasterProduct, Pairs};

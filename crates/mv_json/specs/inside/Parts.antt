@@ -1,6 +1,8 @@
--- What stands in the fields of a message, as they are met in its object; and the tokens of JSON that it is read from.
-use Rattle.std.specs.Prelude.{⊤, Bool, true, false, ◌≡◌, ◌≢◌, ◌<◌, ℕ, List, [], ◌∷◌, length, get_or, set, IfErr, IfOk, Some, Result, Ok}
-use Rattle.mv_json.specs.Words.{Data, Field, IsCode, IsMarket, Items, Members, Memory, MessageFault, PackFault, Token, array, boolean, get, null, object, option_map_or, string, view}
+-- The fields of an object as they are met, one after the other, in any order; what stands in those of a message; and the tokens of
+-- JSON that these are read from.
+use Rattle.std.specs.Prelude.{◌≡◌, ℕ, List, map, All, Contains, Some, ⊤, Bool, true, false, ◌≢◌, ◌<◌, [], ◌∷◌, length, get_or, set, IfErr, IfOk, Result, Ok}
+use Rattle.mv_json.specs.Words.{AllByRecursion, Data, Members, get, object, Field, IsCode, IsMarket, Items, Memory, MessageFault, PackFault, Token, array, boolean, null, option_map_or, string, view}
+use Rattle.mv_json.specs.Members.{keys_of}
 use Rattle.mv_json.specs.declared.object.Object.{Object}
 use Rattle.mv_json.specs.declared.object.Place.{Place}
 use Rattle.mv_json.specs.declared.part.Entry.{Entry}
@@ -10,13 +12,23 @@ use Rattle.mv_json.specs.Fields.{field_name}
 use Rattle.mv_json.specs.Shapes.{found_of}
 use Rattle.mv_json.specs.Limits.{most_markets, most_serials}
 use Rattle.mv_json.specs.Met.{BeginWith}
-use Rattle.mv_json.specs.inside.Met.{HasMet}
 use Rattle.mv_json.specs.Reading.{GivesOr}
 use Rattle.mv_json.specs.Values.{strings, whole}
 use Rattle.json.specs.Token as token
 use Rattle.mv_json.specs.declared.object.Object.TheVariants as objects
 use Rattle.mv_json.specs.declared.object.Place.TheVariants as places
 use Rattle.mv_json.specs.declared.part.Part.TheVariants as parts
+
+-- an object has what was met under these names, each saying so of what stands there, and nothing else
+pub record HasMet {Met : Type 0} (name : Met → List ℕ) (Says : Data → Met → Type 0) (found : Data) (all : List Met) : Type 0 where
+  pub members : Members
+  pub is : found ≡ object members
+  pub says : All (λ met. (part : Data) × (get (name met) found ≡ Some part) × Says part met) all
+  pub only : AllByRecursion (Contains (map name all)) (keys_of members)
+
+-- a field is one of these
+unfoldable pub IsOneOf : {Field : Type 0} → List Field → Field → Type 0
+IsOneOf listed field = Contains listed field
 
 -- the tokens are a text of which this holds, then the rest
 abbrev pub BeginWithText : List Token → (List ℕ → Type 0) → List Token → Type 0

@@ -1,4 +1,4 @@
--- The shape of each form of message: its version and its name, its fields, what each of them means, the message that their values make,
+-- What the type of a message says of its numbers.
 use Rattle.mv_json.specs.Words.{Message}
 use Rattle.std.specs.Prelude.{⊤, ◌<◌, ◌^◌}
 use Rattle.mv_message.specs.declared.message.Message.TheVariants as messages

@@ -1,4 +1,4 @@
--- Serial numbers, batch numbers and national numbers, as texts, by the GS1 General Specifications.
+-- How a code is kept: in 20 bytes, with zeros behind its text.
 use Rattle.std.specs.Prelude.{◌≡◌, ℕ, ◌+◌, ◌-◌, ◌++◌, replicate, ◌==◌, not, Bool, List, length}
 use Rattle.mv_pack.specs.Words.{before_first}
 use Rattle.mv_pack.specs.Code.{IsCode, most_code_bytes}

@@ -1,4 +1,4 @@
--- A value for each ordered pair of parties: a list of rows, the row of the party from which at its number, with the value
+-- How a table of pairs is seen.
 use Rattle.std.specs.Prelude.{List, map}
 use Rattle.std.specs.declared.alloc.Global.{Global}
 use Rattle.std.specs.declared.vec.Vec.{Vec}

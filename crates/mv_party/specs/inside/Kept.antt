@@ -1,7 +1,6 @@
 -- What a party keeps beside its lists. No public contract cites it.
 use Rattle.std.specs.Prelude.{◌≡◌, ◌<◌, ◌≤◌, ℕ, List, length, slice_index_or}
-use Rattle.mv_party.specs.Words.{Message, SUBMISSIONS_LIMIT}
-use Rattle.mv_repository.specs.Repository.{RepositoryState}
+use Rattle.mv_party.specs.Words.{Message, RepositoryState, SUBMISSIONS_LIMIT}
 use Rattle.mv_party.specs.Site.{SiteState, count_from, IsLawfulParty}
 
 -- the party of these parts, one of so many

@@ -7,7 +7,7 @@ use Rattle.mv_repository.specs.declared.tables.Tables.{Tables}
 use Rattle.mv_repository.specs.Order.{ordered}
 use Rattle.mv_repository.specs.Repository.{uploaded_packs}
 use Rattle.mv_repository.specs.inside.Shelf.{IsShelfOf, shelf_of}
-use Rattle.mv_repository.specs.inside.Stops.{AreFound, AreStopsOf}
+use Rattle.mv_repository.specs.inside.Track.{AreFound, AreStopsOf}
 use Rattle.mv_repository.specs.Verdict.{asked_parties, has_answered, has_finding, found_active, found_explained}
 
 -- an item is a master of a code

@@ -1,16 +1,74 @@
--- What is kept of one pack: its first upload, its statuses in the order of stamps, the entry by which the pack stands behind
-use Rattle.std.specs.Prelude.{if◌then◌else◌, ◌≡◌, ◌≤◌, ◌+◌, ◌%◌, ◌∷◌, ◌++◌}
-use Rattle.mv_repository.specs.Words.{ℕ, List, [], take, Option, Some, None, option_and_then, option_map, option_map_or, BatchKey, Standing, Message, Status, Item, LogEntry, Effect, BatchStanding, unwrap_or, Held, batch_key, ⊤, length, drop, true, AllByRecursion, PARTIES_LIMIT, PartySet, map, fold, PackKey, Block}
-use Rattle.mv_message.specs.declared.standing.Standing.TheVariants as standings
-use Rattle.mv_repository.specs.declared.effect.Effect.TheVariants as effects
+-- By what a pack is worked out, and what is kept of it, by places in the log: the stops of its batch and of its product, what
+-- each of its statuses does, the entry by which it stands behind them, and what many of them do that stand one behind the other;
+-- and its history.
+use Rattle.std.specs.Prelude.{◌≡◌, if◌then◌else◌, ◌≤◌, ◌+◌, ◌%◌, ◌∷◌, ◌++◌}
+use Rattle.mv_repository.specs.Words.{ℕ, List, find, Bool, true, Option, Some, bytes_eq, flat_map, lookup, keys_of, option_map, option_map_or, insert_key, Item, LogEntry, Stop, Stops, OfBatch, OfProduct, is_same_batch, [], take, None, option_and_then, BatchKey, Standing, Message, Status, Effect, BatchStanding, unwrap_or, Held, batch_key, ⊤, length, drop, AllByRecursion, PARTIES_LIMIT, PartySet, map, fold, PackKey, Block, IfSome, slice_get}
+use Rattle.mv_repository.specs.Order.{Placed, passes, ordered, stands_before}
+use Rattle.mv_repository.specs.Pack.{is_recall_of, is_withdrawal_of, effect_of, KnownPack, KnownChange, is_active, is_done, change_effect, held_of}
+use Rattle.mv_repository.specs.Repository.{each_once, recalled_in}
+use Rattle.mv_repository.specs.Stops.{FirstStops, entry_at, withdrawn_in, standing_at, message_in, first_stops}
 use Rattle.mv_repository.specs.declared.state.Basis.{Basis}
-use Rattle.mv_repository.specs.Order.{Placed, stands_before, ordered}
-use Rattle.mv_repository.specs.Pack.{effect_of, KnownPack, KnownChange, is_active, is_done, change_effect, held_of}
-use Rattle.mv_repository.specs.Stops.{FirstStops, standing_at, entry_at, message_in, first_stops}
-use Rattle.mv_repository.specs.inside.Stops.{stops_in, place_of}
 use Rattle.mv_link.specs.PartySets.{has_party}
 use Rattle.mv_repository.specs.declared.blocks.Cut.{Cut}
 use Rattle.mv_repository.specs.Track.{first_upload, pack_made_by, statuses_of}
+use Rattle.mv_repository.specs.declared.history.Places.{Places}
+use Rattle.mv_repository.specs.Agreement.{PackHistory}
+use Rattle.mv_message.specs.declared.standing.Standing.TheVariants as standings
+use Rattle.mv_repository.specs.declared.effect.Effect.TheVariants as effects
+
+-- the place in the log of an entry, counted from 0
+abbrev pub place_of : Placed → ℕ
+place_of placed = placed.place
+
+-- what the tables find in a log
+abbrev pub stops_in : List LogEntry → Stops → FirstStops
+stops_in log tables = record {
+  recall = λ batch. option_map (entry_at log) (lookup (is_same_batch batch) tables.recalls.entries);
+  withdrawal = λ gtin. option_map (entry_at log) (lookup (bytes_eq gtin) tables.withdrawals.entries);
+}
+
+-- an item stops packs so
+abbrev pub is_stop : Stop → Item → Bool
+is_stop (OfBatch batch) item = is_recall_of batch.now item
+is_stop (OfProduct gtin) item = is_withdrawal_of gtin.now item
+
+-- the product of the packs that are stopped so
+abbrev pub stopped_product : Stop → List ℕ
+stopped_product (OfBatch batch) = batch.now.gtin
+stopped_product (OfProduct gtin) = gtin.now
+
+-- the place of the first that stops so, by the tables
+abbrev pub first_place : Stop → Stops → Option ℕ
+first_place (OfBatch batch) tables = lookup (is_same_batch batch.now) tables.recalls.entries
+first_place (OfProduct gtin) tables = lookup (bytes_eq gtin.now) tables.withdrawals.entries
+
+-- a table of keys has the place of what is picked of each kind
+abbrev pub AreFound : {K : Type 0} → (K → K → Bool) → (K → Item → Bool) → ((Placed → Bool) → Option Placed) → List (K × ℕ) → Type 0
+AreFound {K} same is_of pick places = (key : K) → lookup (same key) places ≡ option_map place_of (pick (λ placed. is_of key placed.entry.item))
+
+-- a table of keys has the first of each kind, by stamp, and the keys, each once, in the order in which they arrived
+pub record AreFirstsOf {K : Type 0} (same : K → K → Bool) (is_of : K → Item → Bool) (keys_in : Item → List K) (log : List LogEntry) (places : List (K × ℕ)) : Type 0 where
+  pub found : AreFound same is_of (λ test. find test (ordered log)) places
+  pub keys : keys_of places ≡ each_once same (flat_map (λ entry. keys_in entry.item) log)
+
+-- the tables are those of a log
+pub record AreStopsOf (log : List LogEntry) (tables : Stops) : Type 0 where
+  pub recalls : AreFirstsOf is_same_batch is_recall_of recalled_in log tables.recalls.entries
+  pub withdrawals : AreFirstsOf bytes_eq is_withdrawal_of withdrawn_in log tables.withdrawals.entries
+
+-- the newest entry comes first: there is none so far, or it stands before the first so far, which is at that place
+abbrev pub comes_first : List LogEntry → ℕ → Option ℕ → Bool
+comes_first log new first = option_map_or (λ one. passes (entry_at log new) (entry_at log one)) first true
+
+-- the earlier of the first so far and the newest entry, by their places
+abbrev pub earlier_place : List LogEntry → ℕ → Option ℕ → Option ℕ
+earlier_place log new first = if comes_first log new first then Some new else first
+
+-- a table of keys once the newest entry, which is under one of them, is added to it
+pub record HasFirst {K : Type 0} (same : K → K → Bool) (log : List LogEntry) (new : ℕ) (key : K) (before after : List (K × ℕ)) : Type 0 where
+  pub places : (other : K) → lookup (same other) after
+      ≡ (if same key other then earlier_place log new (lookup (same key) before) else lookup (same other) before)
+  pub keys : keys_of after ≡ insert_key same (keys_of before) key
 
 -- the batch of the packs that an item uploads, and that the entry at a place of a log does
 abbrev pub made_batch : Item → Option (List ℕ)
@@ -183,3 +241,23 @@ pub record IsTrack (log : List LogEntry) (stops : FirstStops) (gtin : List ℕ) 
   pub by : kept.by ≡ fold (next_place log stops gtin kept.birth) (unwrap_or kept.birth 0) kept.statuses
   pub blocks : AreBlocks (entry_at log) (next_place log stops gtin kept.birth) (unwrap_or kept.birth 0) (unwrap_or kept.birth 0)
       kept.blocks kept.statuses
+
+-- an entry is the one at its place in a log
+abbrev pub IsAt : List LogEntry → Placed → Type 0
+IsAt log placed = slice_get log placed.place ≡ Some placed.entry
+
+-- so is each of a history
+pub record AreAt (log : List LogEntry) (history : PackHistory) : Type 0 where
+  pub upload : IfSome history.upload (IsAt log)
+  pub statuses : AllByRecursion (IsAt log) history.statuses
+  pub recall : IfSome history.recall (IsAt log)
+  pub withdrawal : IfSome history.withdrawal (IsAt log)
+
+-- a history by its places in a log
+abbrev pub history_at : Places → PackHistory
+history_at places = record {
+  upload = option_map (entry_at places.log.now) places.upload;
+  statuses = map (entry_at places.log.now) places.statuses.now;
+  recall = option_map (entry_at places.log.now) places.recall;
+  withdrawal = option_map (entry_at places.log.now) places.withdrawal;
+}

@@ -1,13 +1,11 @@
--- What standard error is told, where that is one of these lines.
-use Rattle.std.specs.Prelude.{◌≡◌, ℕ, List, [], ◌∷◌, ◌++◌, codes, Option, Some, None, OnOk, MatchResult, Result}
-use Rattle.std.specs.Io.KnownBytes.{Appends, Keeps}
-use Rattle.mv_explain.specs.Explained.{first_unknown, lines_of}
+-- What standard error is told of a strict run and of codes; and what `work` writes.
+use Rattle.std.specs.Prelude.{◌≡◌, ℕ, List, [], ◌∷◌, ◌++◌, codes, Option, Some, None, OnOk, MatchResult, Result, Bool, true, false, Ok, Err}
+use Rattle.mv_tool.specs.Names.{Appends, Done, Failed, Keeps, Refused, ServeFault, Status, WrotePart, first_unknown, lines_of, Memory, Start, State, report_text}
 use Rattle.mv_checks.specs.declared.strict.Untaken.{Untaken}
-use Rattle.mv_engine.specs.declared.fault.ServeFault.{ServeFault}
-use Rattle.mv_engine.specs.Output.{WrotePart}
-use Rattle.mv_tool.specs.declared.status.Status.{Status}
-use Rattle.mv_tool.specs.declared.status.Status.TheVariants.{Done, Failed, Refused}
 use Rattle.mv_tool.specs.Telling.{untaken_line}
+use Rattle.mv_workers.specs.declared.plan.WorkFault.{WorkFault}
+use Rattle.mv_tool.specs.Working.{end_line}
+use Rattle.mv_workers.specs.declared.plan.WorkFault.TheVariants as faults
 
 -- the line on a word that is no code
 abbrev pub no_code_line : List ℕ → List ℕ
@@ -26,3 +24,15 @@ ToldCodes words Done old new told_old told_new = (first_unknown words ≡ None) 
 ToldCodes words Failed old new told_old told_new = (first_unknown words ≡ None) × WrotePart (lines_of words) old new
 ToldCodes words Refused old new told_old told_new =
     (word : List ℕ) × (first_unknown words ≡ Some word) × Keeps old new × WrotePart (no_code_line word) told_old told_new
+
+-- what is written of an outcome, and whether the plan was finished
+abbrev pub report_of : Bool → State → List ℕ × Bool
+report_of finished outcome = (report_text outcome ++ end_line finished, finished)
+
+-- The same of what a run came to. The run of a plan that can't be run was not started.
+abbrev pub output_of : Result State WorkFault → Result (List ℕ × Bool) ServeFault
+output_of (Ok outcome) = Ok (report_of true outcome)
+output_of (Err (faults.Unfinished outcome)) = Ok (report_of false outcome)
+output_of (Err (faults.Memory outcome)) = Err Memory
+output_of (Err faults.Start) = Err Start
+output_of (Err faults.Plan) = Err Start

@@ -1,7 +1,6 @@
 -- What is written to a line: the text of its event, or nothing.
 use Rattle.std.specs.Prelude.{◌≡◌, ℕ, List, [], ◌++◌, Bool, true, is_some, Option, Some, None, Result, MatchResult}
-use Rattle.mv_trail.specs.Words.{Data}
-use Rattle.serde_json.specs.Written.{compact_text}
+use Rattle.mv_trail.specs.Words.{Data, compact_text}
 use Rattle.mv_trail.specs.Events.{Event}
 use Rattle.mv_trail.specs.Trail.{event_text}
 

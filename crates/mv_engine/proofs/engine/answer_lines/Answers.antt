@@ -37,7 +37,7 @@ returns-then-count-eq0-clause-ok g c =
 pub returns-then-count-eq0-clause-ended : goal.returns-then-count-eq0-clause-ended
 returns-then-count-eq0-clause-ended g c =
     MatchResult-weaker c.answer_last.result c.answer_last.ensures.err (λ u t. t) (λ fault halted.
-    (c.loop.invariant.0, read_none _ _ _ _ _ _ c.loop.invariant.1 c.in_ok-count.ensures.read c.if-count-eq0.true, grind (arith, halted, halted_last)))
+    (c.loop.invariant.0, read_none _ _ _ _ _ _ c.loop.invariant.1 c.in_ok-count.ensures.read c.if-count-eq0.true, grind (arith, halted, halted_last, c.in_ok-count.ensures.end c.if-count-eq0.true)))
 
 -- no more reads are made
 pub returns-clause-ended : goal.returns-clause-ended

@@ -1,5 +1,4 @@
-use Rattle.std.proofs.Common.{arith}
-use Rattle.std.proofs.lemmas.Grind.{common_steps}
+use Rattle.mv_format.proofs.Words.{arith, common_steps}
 use Rattle.mv_format.proofs.WritingLemmas.{bracketed, list_is}
 use Rattle.mv_format.proofs.to_json.write_list.Goals as goal
 

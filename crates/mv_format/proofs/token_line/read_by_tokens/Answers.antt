@@ -1,5 +1,4 @@
-use Rattle.std.proofs.Common.{◌≡◌, [], rules}
-use Rattle.json.specs.Lex.{tokens}
+use Rattle.mv_format.proofs.Words.{[], rules, tokens, ◌≡◌}
 use Rattle.mv_format.proofs.LinePartLemmas.{line_asks}
 use Rattle.mv_format.proofs.token_line.read_by_tokens.Goals as goal
 

@@ -1,5 +1,4 @@
-use Rattle.mv_format.proofs.Words.{refl, string}
-use Rattle.mv_json.proofs.MetLemmas.{text_begins}
+use Rattle.mv_format.proofs.Words.{refl, string, text_begins}
 use Rattle.mv_format.proofs.token_line.take_text_part.Goals as goal
 
 pub returns : goal.returns

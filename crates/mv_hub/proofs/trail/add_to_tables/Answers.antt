@@ -1,6 +1,4 @@
-use Rattle.std.proofs.Common.{sym, inl, inr, arith, append-nil}
-use Rattle.std.proofs.lemmas.Result.{on_ok_weaker}
-use Rattle.mv_hub.specs.inside.Tables.{Notes}
+use Rattle.mv_hub.proofs.Words.{Notes, append-nil, arith, inl, inr, on_ok_weaker, sym}
 use Rattle.mv_hub.proofs.ListingLemmas.{text-same}
 use Rattle.mv_hub.proofs.TrailLemmas.{tables-push}
 use Rattle.mv_hub.proofs.trail.add_to_tables.Goals as goal

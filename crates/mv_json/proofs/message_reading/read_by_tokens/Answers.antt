@@ -1,5 +1,4 @@
-use Rattle.std.proofs.Common.{◌≡◌, [], rules}
-use Rattle.json.specs.Lex.{tokens}
+use Rattle.mv_json.proofs.Words.{[], rules, tokens, ◌≡◌}
 use Rattle.mv_json.proofs.PartLemmas.{text_read}
 use Rattle.mv_json.proofs.message_reading.read_by_tokens.Goals as goal
 

@@ -1,5 +1,4 @@
-use Rattle.std.proofs.Common.{◌+◌, ◌*◌, length}
-use Rattle.mv_json.specs.inside.Parts.{deep_in}
+use Rattle.mv_json.proofs.Words.{deep_in, length, ◌*◌, ◌+◌}
 use Rattle.mv_json.proofs.PartLemmas.{AreEntries}
 use Rattle.mv_json.proofs.part_reading.+members.Given as goal
 

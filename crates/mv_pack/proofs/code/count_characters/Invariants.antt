@@ -1,5 +1,4 @@
-use Rattle.std.proofs.Common.{◌≡◌, take}
-use Rattle.mv_pack.proofs.Words.{count_by, is_code_character}
+use Rattle.mv_pack.proofs.Words.{count_by, is_code_character, take, ◌≡◌}
 use Rattle.mv_pack.proofs.code.count_characters.Given as goal
 
 abbrev pub invariant-loop-byte : goal.invariant-loop-byte

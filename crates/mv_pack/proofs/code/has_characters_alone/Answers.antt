@@ -1,5 +1,4 @@
-use Rattle.std.proofs.Common.{◌≡◌, ◌∙◌, ◌+◌, ◌-◌, length, take, drop, ap, ap₂, sym, arith}
-use Rattle.mv_pack.proofs.Words.{count_by, is_code_character, length-drop, nat_tests, take_all}
+use Rattle.mv_pack.proofs.Words.{ap, ap₂, arith, count_by, drop, is_code_character, length, length-drop, nat_tests, sym, take, take_all, ◌+◌, ◌-◌, ◌∙◌, ◌≡◌}
 use Rattle.mv_pack.proofs.CodeLemmas.{none_wrong_in_pieces}
 use Rattle.mv_pack.proofs.code.has_characters_alone.Goals as goal
 

@@ -1,5 +1,4 @@
-use Rattle.std.proofs.Common.{get_or, arith}
-use Rattle.mv_pack.specs.Gtin.{is_digit}
+use Rattle.mv_pack.proofs.Words.{arith, get_or, is_digit}
 use Rattle.mv_pack.proofs.GtinLemmas.{weighted_sum_is_check_sum, digit_bounds, weight_times_digit, weighted_sum-drop}
 use Rattle.mv_pack.proofs.TextLemmas.{passes_at}
 use Rattle.mv_pack.proofs.gtin.check_sum.Goals as goal

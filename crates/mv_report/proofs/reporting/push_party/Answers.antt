@@ -1,5 +1,4 @@
-use Rattle.std.proofs.Common.{append_assoc}
-use Rattle.mv_report.specs.Report.{party_line}
+use Rattle.mv_report.proofs.Words.{append_assoc, party_line}
 use Rattle.mv_report.proofs.ReportLemmas.{line_behind, padded_number}
 use Rattle.mv_report.proofs.reporting.push_party.Goals as goal
 

@@ -1,5 +1,4 @@
-use Rattle.std.proofs.Common.{arith, filter, length, ◌∙◌, ap}
-use Rattle.mv_report.specs.Report.{head_line, is_closing, party_line}
+use Rattle.mv_report.proofs.Words.{ap, arith, filter, head_line, is_closing, length, party_line, ◌∙◌}
 use Rattle.mv_report.proofs.ReportLemmas.{lines_more, report_whole}
 use Rattle.mv_report.proofs.reporting.report.Goals as goal
 

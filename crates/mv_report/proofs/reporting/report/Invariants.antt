@@ -1,6 +1,4 @@
-use Rattle.std.proofs.Common.{◌≡◌, ◌++◌, string_bytes, flat_map}
-use Rattle.std.specs.List.{range_with_len}
-use Rattle.mv_report.specs.Report.{head_line, party_line}
+use Rattle.mv_report.proofs.Words.{flat_map, head_line, party_line, range_with_len, string_bytes, ◌++◌, ◌≡◌}
 use Rattle.mv_report.proofs.reporting.report.Given as goal
 
 -- the head line and the lines of the parties before this one are written

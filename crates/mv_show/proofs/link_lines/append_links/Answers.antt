@@ -1,5 +1,5 @@
 use Rattle.std.proofs.Common.{arith, rules}
-use Rattle.mv_show.proofs.BlockLemmas.{next_number, no_number, texts_more}
+use Rattle.mv_show.proofs.GatheringLemmas.{next_number, no_number, texts_more}
 use Rattle.mv_show.proofs.link_lines.append_links.Goals as goal
 
 pub loop-to-preserved : goal.loop-to-preserved

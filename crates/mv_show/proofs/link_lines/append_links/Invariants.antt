@@ -1,5 +1,5 @@
 use Rattle.mv_show.proofs.Words.{◌≡◌, ◌++◌, flat_map, lines_text, link_rows}
-use Rattle.mv_show.proofs.BlockLemmas.{links_from, numbers_from}
+use Rattle.mv_show.proofs.GatheringLemmas.{links_from, numbers_from}
 use Rattle.mv_show.proofs.link_lines.append_links.Given as goal
 
 -- the lines of the other links are left to be written

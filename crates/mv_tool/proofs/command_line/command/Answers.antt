@@ -1,5 +1,4 @@
-use Rattle.std.proofs.Common.{◌≡◌, ◌∙◌, ap, map, string_bytes, subst, sym}
-use Rattle.mv_words.specs.Words.{AreMistaken, AsksFor}
+use Rattle.mv_tool.proofs.Words.{AreMistaken, AsksFor, ap, map, string_bytes, subst, sym, ◌∙◌, ◌≡◌}
 use Rattle.mv_tool.specs.Statuses.{status_code}
 use Rattle.mv_tool.proofs.CommandLemmas.{kind_mistaken}
 use Rattle.mv_tool.proofs.command_line.command.Goals as goal

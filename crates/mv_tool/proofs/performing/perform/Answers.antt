@@ -1,9 +1,6 @@
-use Rattle.std.proofs.Common.{None, arith}
-use Rattle.std.proofs.lemmas.Result.{on_ok_weaker}
-use Rattle.mv_lines.specs.Canon.{IsCanon}
-use Rattle.mv_lines.specs.Sessions.{IsReply}
+use Rattle.mv_tool.proofs.Words.{IsCanon, IsReply, None, arith, on_ok_weaker}
 use Rattle.mv_trail.specs.Trail.{IsEvent}
-use Rattle.mv_tool.proofs.CommandLemmas.{answered_quietly, canon_left, ran_answered, ran_explain, ran_lines, ran_strict}
+use Rattle.mv_tool.proofs.CommandLemmas.{answered_quietly, canon_left, ran_answered, ran_explain, ran_lines, ran_strict, told_nothing}
 use Rattle.mv_tool.proofs.performing.perform.Goals as goal
 
 -- steps were answered
@@ -24,7 +21,8 @@ returns-in-Trail-clause-ran g c =
 -- and what stands behind them
 pub returns-in-Show-clause-ran : goal.returns-in-Show-clause-ran
 returns-in-Show-clause-ran g c =
-    rw c.in-Show.is (ran_answered _ _ _ _ None None _ _ _ c.show.result c.status_of_answer.ensures.status c.show.ensures.ok c.show.ensures.err)
+    rw c.in-Show.is (ran_answered _ _ _ _ None None _ _ _ c.show.result c.status_of_answer.ensures.status
+    (told_nothing _ _ c.show.result c.show.ensures.ok c.status_of_answer.ensures.quiet) c.show.ensures.err)
 
 -- messages were answered
 pub returns-in-Canon-clause-ran : goal.returns-in-Canon-clause-ran
@@ -41,7 +39,8 @@ returns-in-Check-clause-ran g c =
 -- a plan was carried out
 pub returns-in-Work-clause-ran : goal.returns-in-Work-clause-ran
 returns-in-Work-clause-ran g c =
-    rw c.in-Work.is (ran_answered _ _ _ _ None None _ _ _ c.work.result c.status_of_answer-in-Work.ensures.status c.work.ensures.ok c.work.ensures.err)
+    rw c.in-Work.is (ran_answered _ _ _ _ None None _ _ _ c.work.result c.status_of_answer-in-Work.ensures.status
+    (told_nothing _ _ c.work.result c.work.ensures.ok c.status_of_answer-in-Work.ensures.quiet) c.work.ensures.err)
 
 -- codes were explained
 pub returns-in-Explain-clause-ran : goal.returns-in-Explain-clause-ran

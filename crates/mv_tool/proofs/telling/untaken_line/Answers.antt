@@ -1,5 +1,4 @@
-use Rattle.std.proofs.Common.{◌∙◌, append_assoc}
-use Rattle.std.proofs.lemmas.Result.{IfOk-weaker}
+use Rattle.mv_tool.proofs.Words.{IfOk-weaker, append_assoc, ◌∙◌}
 use Rattle.mv_tool.proofs.telling.untaken_line.Goals as goal
 
 pub returns : goal.returns

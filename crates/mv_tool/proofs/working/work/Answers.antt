@@ -1,5 +1,4 @@
-use Rattle.std.proofs.Common.{arith}
-use Rattle.std.proofs.lemmas.Result.{err_from_is_err_and}
+use Rattle.mv_tool.proofs.Words.{arith, err_from_is_err_and}
 use Rattle.mv_tool.proofs.WorkLemmas.{worked_whole, worked_part, work_stopped}
 use Rattle.mv_tool.proofs.working.work.Goals as goal
 

@@ -1,14 +1,14 @@
 use Rattle.std.proofs.Common.{◌≡◌, ◌∙◌, ℕ, List, None, Some, IfSome, rules}
 use Rattle.std.specs.List.{enumerate_from, filter_map}
-use Rattle.mv_engine.specs.Lines.{lines_from, pieces}
+use Rattle.mv_engine.specs.Lines.{Line, lines_from, pieces}
 use Rattle.mv_lines.specs.Sessions.{Open}
 use Rattle.mv_trail.specs.Events.{Event}
 use Rattle.mv_trail.specs.Laws.{AreTold, RecordIsTold, entry_told}
 use Rattle.mv_uses.proofs.trail.trail_of.Goals as goal
 
 -- where a system is open behind the events, they tell its record
-record_told : (after : Open) (lines : List (List ℕ)) (events : List Event) → RecordIsTold → AreTold None lines events after
-    → IfSome after (λ st. filter_map entry_told events ≡ enumerate_from 1 st.hub.entries)
+record_told : (after : Open) (lines : List Line) (events : List (ℕ × Event)) → RecordIsTold → AreTold None lines events after
+    → IfSome after (λ st. filter_map (λ (it : ℕ × Event). entry_told it.1) events ≡ enumerate_from 1 st.hub.entries)
 record_told None lines events law told = tt
 record_told (Some st) lines events law told = law lines events st told
 

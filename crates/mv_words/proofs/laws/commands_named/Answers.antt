@@ -1,5 +1,4 @@
-use Rattle.std.proofs.Common.{refl}
-use Rattle.clap.proofs.OnLiterals.{clap_on_literals}
+use Rattle.mv_words.proofs.Names.{clap_on_literals, refl}
 use Rattle.mv_words.proofs.laws.commands_named.Goals as goal
 
 -- the command line takes these words, and names what they ask for

@@ -1,8 +1,7 @@
-use Rattle.std.proofs.Common.{◌∙◌, ap, ap₂}
+use Rattle.mv_words.proofs.Names.{ap, ap₂, code_rule, flag_rule, turns_rule, ◌∙◌}
 use Rattle.std.proofs.lemmas.Result.{IfOk-weaker}
 use Rattle.std.specs.Prelude.{codes}
 use Rattle.clap.specs.Words.{App, Shape, new_app, with_rule, with_subcommand}
-use Rattle.mv_words.specs.Words.{code_rule, flag_rule, turns_rule}
 use Rattle.mv_words.proofs.words.command_line.Goals as goal
 
 -- one subcommand after another was added

@@ -1,5 +1,4 @@
-use Rattle.mv_workers.proofs.Words.{◌≡◌, ◌<◌, ℕ, items_from, log_of}
-use Rattle.mv_hub.specs.Links.{link_items}
+use Rattle.mv_workers.proofs.Words.{items_from, link_items, log_of, ℕ, ◌<◌, ◌≡◌}
 use Rattle.mv_workers.proofs.complete.has_applied.Given as goal
 
 abbrev pub invariant-loop-from : goal.invariant-loop-from

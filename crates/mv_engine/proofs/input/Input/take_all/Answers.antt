@@ -1,5 +1,4 @@
-use Rattle.std.proofs.lemmas.Result.{on_ok_weaker}
-use Rattle.mv_engine.proofs.Words.{◌≡◌, ◌++◌, refl, [], append_assoc, append-nil, IfErr-weaker, err_from_is_err_and}
+use Rattle.mv_engine.proofs.Words.{IfErr-weaker, [], append-nil, append_assoc, err_from_is_err_and, on_ok_weaker, refl, ◌++◌, ◌≡◌}
 use Rattle.mv_engine.proofs.PartLemmas.{cut_line, absent_unended}
 use Rattle.mv_engine.proofs.InputLemmas.{none_added, part_taken, stopped_in, grown_stopped, grown_taken}
 use Rattle.mv_engine.proofs.input.Input.take_all.Goals as goal

@@ -1,5 +1,4 @@
-use Rattle.std.proofs.Common.{rules}
-use Rattle.mv_format.specs.Requests.{request_at}
+use Rattle.mv_format.proofs.Words.{request_at, rules}
 use Rattle.mv_format.proofs.request.Request.of_kind.Goals as goal
 
 -- each kind by its fields

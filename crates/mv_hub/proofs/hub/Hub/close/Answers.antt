@@ -1,5 +1,4 @@
-use Rattle.std.proofs.Common.{◌<◌, length, arith}
-use Rattle.std.proofs.lemmas.Bool.Decides.{nat_tests}
+use Rattle.mv_hub.proofs.Words.{arith, length, nat_tests, ◌<◌}
 use Rattle.mv_hub.proofs.HubLemmas.{kept_closed}
 use Rattle.mv_hub.proofs.hub.Hub.close.Goals as goal
 

@@ -1,5 +1,4 @@
-use Rattle.std.proofs.Common.{◌+◌, ◌∙◌, take, map, ap}
-use Rattle.std.proofs.lemmas.List.{take_more}
+use Rattle.mv_hub.proofs.Words.{ap, map, take, take_more, ◌+◌, ◌∙◌}
 use Rattle.mv_hub.proofs.MarketTableLemmas.{noted-none, noted-more, noted-twice, twice-front, twice-first, lists-more, lists-count}
 use Rattle.mv_hub.proofs.market_table.MarketTable.of.Goals as goal
 

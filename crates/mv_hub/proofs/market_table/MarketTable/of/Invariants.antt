@@ -1,5 +1,4 @@
-use Rattle.std.proofs.Common.{◌++◌, ◌∷◌, map, take, []}
-use Rattle.mv_hub.specs.inside.Tables.{AreNoted}
+use Rattle.mv_hub.proofs.Words.{AreNoted, [], map, take, ◌++◌, ◌∷◌}
 use Rattle.mv_hub.proofs.market_table.MarketTable.of.Given as goal
 
 abbrev pub invariant-loop-party : goal.invariant-loop-party

@@ -1,6 +1,4 @@
-use Rattle.std.proofs.Common.{Contains, arith, sym}
-use Rattle.std.proofs.lemmas.Result.{IfOk-weaker}
-use Rattle.mv_hub.specs.BatchLinks.{IsAscendingList, IsDescendant, linked_to}
+use Rattle.mv_hub.proofs.Words.{Contains, IfOk-weaker, IsAscendingList, IsDescendant, arith, linked_to, sym}
 use Rattle.mv_hub.proofs.ListingLemmas.{listed-same}
 use Rattle.mv_hub.proofs.SearchLemmas.{searching_start, searching_more, searching_end}
 use Rattle.mv_hub.proofs.trail.AuditTrail.descendants.Goals as goal

@@ -1,5 +1,4 @@
-use Rattle.std.proofs.Common.{◌-◌}
-use Rattle.mv_hub.specs.BatchLinks.{linked_to}
+use Rattle.mv_hub.proofs.Words.{linked_to, ◌-◌}
 use Rattle.mv_hub.proofs.SearchLemmas.{IsSearching}
 use Rattle.mv_hub.proofs.trail.AuditTrail.descendants.Given as goal
 

@@ -1,5 +1,4 @@
-use Rattle.std.proofs.Common.{take}
-use Rattle.mv_hub.specs.inside.Tables.{Gathers}
+use Rattle.mv_hub.proofs.Words.{Gathers, take}
 use Rattle.mv_hub.proofs.trail.batch_links.add_all.Given as goal
 
 abbrev pub invariant-loop-batch : goal.invariant-loop-batch

@@ -1,5 +1,4 @@
-use Rattle.mv_json.specs.Fields.{field_name}
-use Rattle.mv_json.proofs.Words.{take_all}
+use Rattle.mv_json.proofs.Words.{field_name, take_all}
 use Rattle.mv_json.proofs.MetLemmas.{known_only}
 use Rattle.mv_json.proofs.object.Object.has_met_only.Goals as goal
 

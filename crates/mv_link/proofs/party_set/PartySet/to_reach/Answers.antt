@@ -8,8 +8,8 @@ push-requires c =
 
 pub new-requires : goal.new-requires
 new-requires c =
-    let all = rw (c.in_default.ensures.list, append-nil c.loop-party.found.items) at c.loop-party.invariant in
+    let all = rw (c.in_default.ensures.list.0, append-nil c.loop-party.found.items) at c.loop-party.invariant in
     rw all (increasing-in c.args.self)
 
 pub returns : goal.returns
-returns c = c.new.ensures ∙ rw (c.in_default.ensures.list, append-nil c.loop-party.found.items) at c.loop-party.invariant
+returns c = c.new.ensures ∙ rw (c.in_default.ensures.list.0, append-nil c.loop-party.found.items) at c.loop-party.invariant

@@ -1,5 +1,4 @@
-use Rattle.std.proofs.Common.{◌≡◌, ◌++◌, length}
-use Rattle.mv_link.specs.PartySets.{parties_in}
+use Rattle.mv_link.proofs.Words.{length, parties_in, ◌++◌, ◌≡◌}
 use Rattle.mv_link.proofs.party_set.PartySet.to_reach.Given as goal
 
 abbrev pub invariant-loop-party : goal.invariant-loop-party

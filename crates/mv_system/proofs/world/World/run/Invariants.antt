@@ -1,5 +1,4 @@
-use Rattle.std.proofs.Common.{◌≡◌, ◌≤◌, length, take, vec_len, vec_capacity}
-use Rattle.mv_machine.specs.Runs.{Runs}
+use Rattle.mv_system.proofs.Words.{Runs, length, take, vec_capacity, vec_len, ◌≡◌, ◌≤◌}
 use Rattle.mv_machine.specs.Headline.{HeadlineHolds}
 use Rattle.mv_system.proofs.world.World.run.Given as goal
 

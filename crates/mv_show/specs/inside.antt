@@ -1,2 +1,0 @@
--- What only invariants, private functions and proofs name.
-pub mod Blocks

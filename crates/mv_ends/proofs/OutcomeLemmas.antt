@@ -1,6 +1,6 @@
 -- What an outcome shows of its ends, and that the ends of one opening make a lawful one.
 use Rattle.std.proofs.lemmas.Option.{gets}
-use Rattle.mv_ends.proofs.Words.{◌≡◌, ◌<◌, ℕ, zero, suc, List, [], ◌∷◌, length, get_or, slice_index_or, set, ◌+◌, inl, inr, sym, ◌∙◌, refl, subst, arith, ltb-true, IsTrue, nat_tests, length-map, cases_lt, IsSquare, square-replicate, new_site, State, is_party, site_of, opened_site, opening, IsLawful, IsLawfulAt, IsLawfulRecord, IsWellFormed, HeadlineHolds, headline, opening-sound, HubEnd, HubSeat, RepoEnd, SameHubEnd, IsUnchanged, hub_seat, repo_seat, SameRepoEnd, IsRepoUnchanged, IsSeatOf, AreEnds, sites_of, state_of, IsOutcome}
+use Rattle.mv_ends.proofs.Words.{◌≡◌, ◌<◌, ℕ, zero, suc, List, [], ◌∷◌, length, get_or, slice_index_or, set, ◌+◌, inl, inr, sym, ◌∙◌, refl, subst, arith, ltb-true, IsTrue, nat_tests, length-map, cases_lt, IsSquare, square-replicate, new_site, State, is_party, site_of, opened_site, opening, IsLawful, IsLawfulAt, IsLawfulRecord, IsWellFormed, HeadlineHolds, headline, opening-sound, HubEnd, HubSeat, RepoEnd, SameHubEnd, IsUnchanged, hub_seat, repo_seat, SameRepoEnd, SiteState, ap, IsRepoUnchanged, IsSeatOf, AreEnds, sites_of, state_of, IsOutcome}
 use Rattle.mv_ends.proofs.CallerLemmas.{ends_kept, same_but_one}
 use Rattle.mv_ends.proofs.RingLemmas.{shown_at, shows_same}
 
@@ -12,6 +12,13 @@ place_of hub repos st party view ends is = grind (arith, nat_tests, length-map, 
 pub shown : (hub : HubEnd) (repos : List RepoEnd) (st : State) (party : ℕ) (repo : RepoEnd) → state_of hub repos ≡ st → AreEnds hub repos → IsTrue (is_party st party)
     → repo ≡ slice_index_or repos party repo → repo.site ≡ site_of st party
 shown hub repos st party repo view ends party_is here = grind (arith, gets, place_of, shown_at)
+
+-- it submits as many messages at most as the limits say
+pub limit_shown : (hub : HubEnd) (repos : List RepoEnd) (st : State) (party : ℕ) (repo : RepoEnd) → state_of hub repos ≡ st → AreEnds hub repos → IsTrue (is_party st party)
+    → repo ≡ slice_index_or repos party repo → repo.site.limit ≡ st.limits.submissions
+limit_shown hub repos st party repo view ends party_is here =
+    ap (λ (end : RepoEnd). end.site.limit) here ∙ ap (λ (site : SiteState). site.limit) (ends.seats party repo (place_of hub repos st party view ends party_is)).site
+    ∙ ap (λ (it : State). it.limits.submissions) view
 
 -- the headline, from the opening on
 pub headline_of : (st : State) → IsWellFormed st → IsLawful st → HeadlineHolds (opening st.hub.parties st.limits) st

@@ -1,5 +1,5 @@
 -- What a repository's end keeps as it takes frames.
-use Rattle.mv_ends.proofs.Words.{◌≡◌, ◌<◌, ℕ, List, [], ◌∷◌, ◌++◌, length, arith, true, false, eqb, append-nil, drop, refl, subst, sym, Option, Err, nat_tests, get_or-set_same, get_or-set_other, sent, Message, Item, Frame, accepted, one_more, items_from, SiteState, FailsBy, Taken, apply_fault, with_taken, Submitted, Refused, Memory, refusal_of, reply_to, RepoEnd, IsFront, with_item, stands_to, AreAccepted, is_full, IsRepoUnchanged, Submits, TakesFrame, Applies}
+use Rattle.mv_ends.proofs.Words.{◌≡◌, ◌<◌, ℕ, List, [], ◌∷◌, ◌++◌, length, arith, Bool, None, true, false, eqb, append-nil, drop, refl, subst, sym, Option, Err, nat_tests, get_or-set_same, get_or-set_other, sent, Message, Item, Frame, accepted, one_more, items_from, SiteState, FailsBy, Taken, apply_fault, with_taken, Submitted, Refused, Memory, refusal_of, reply_to, RepoEnd, IsFront, with_item, stands_to, AreAccepted, is_full, IsRepoUnchanged, Submits, TakesFrame, Applies}
 use Rattle.mv_link.specs.declared.incoming.Look.{Look}
 use Rattle.mv_link.specs.declared.incoming.Look.TheVariants as look
 use Rattle.mv_party.specs.declared.fault.SiteFault.{SiteFault}
@@ -22,6 +22,11 @@ pub apply_refused : (from : ℕ) (old new : RepoEnd) (frame : Frame) (fault : Si
     → IsFront new.inlets from frame → refusal_of fault ≡ option_map_or refusal_of (apply_fault (is_full new.uplink) old.site from frame.item (stands_to old.site from frame)) Memory
     → (refusal_of fault ≡ Memory → stands_to old.site from frame ≡ look.Next) → Applies from old new (Refused (refusal_of fault))
 apply_refused from old new frame fault unchanged front why next = grind (arith, nat_tests)
+
+-- what a party takes whatever room its uplink has, it takes where that has room
+pub taken_freely : (full : Bool) (site : SiteState) (from : ℕ) (item : Item) (stands : Look) → apply_fault full site from item stands ≡ None → apply_fault false site from item stands ≡ None
+taken_freely false site from item stands free = free
+taken_freely full site from item stands free = grind (arith, nat_tests)
 
 -- where it took the frame, the reply says so
 pub apply_taken : (from number : ℕ) (old new : RepoEnd) (taken : Taken) → TakesFrame from old new (reply_to number taken) → Applies from old new (reply_to number taken)

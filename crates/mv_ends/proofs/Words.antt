@@ -31,7 +31,7 @@ pub use Rattle.mv_party.specs.Site.{IsLawfulParty, SiteState, new_site}
 pub use Rattle.mv_party.specs.declared.taken.Taken.{Taken}
 pub use Rattle.mv_repository.specs.Repository.{items_from}
 pub use Rattle.rtrb.specs.Ring.{IsPair, SameConsumer, SameProducer, consumer_capacity, producer_capacity, received, sent}
-pub use Rattle.std.proofs.Common.{All, Err, IsTrue, List, None, Option, [], ap, append-nil, arith, drop, eqb, false, get_or, inl, inr, length, length-append, ltb-true, map, option_to_list, refl, replicate, rules, set, slice_index_or, subst, suc, sym, true, vec_capacity, vec_items, zero, ℕ, ◌++◌, ◌+◌, ◌<◌, ◌∙◌, ◌∷◌, ◌≡◌, ◌≤◌}
+pub use Rattle.std.proofs.Common.{Bool, All, Err, IsTrue, List, None, Option, [], ap, append-nil, arith, drop, eqb, false, get_or, inl, inr, length, length-append, ltb-true, map, option_to_list, refl, replicate, rules, set, slice_index_or, subst, suc, sym, true, vec_capacity, vec_items, zero, ℕ, ◌++◌, ◌+◌, ◌<◌, ◌∙◌, ◌∷◌, ◌≡◌, ◌≤◌}
 pub use Rattle.std.proofs.lemmas.Bool.{cases_lt}
 pub use Rattle.std.proofs.lemmas.Bool.Decides.{nat_tests}
 pub use Rattle.std.proofs.lemmas.Grind.{common_steps}

@@ -64,6 +64,7 @@ stands_to site sender frame = look_at (count_from site.log sender) frame.number
 -- reply says what it did with the frame.
 pub record TakesFrame (from : ℕ) (old new : RepoEnd) (reply : Reply) : Type 0 where
   pub frame : Frame
+  pub free : apply_fault false old.site from frame.item (stands_to old.site from frame) ≡ None
   pub taken : new.inlets.taken ≡ with_item old.inlets.taken from frame
   pub site : new.site ≡ with_taken old.site from frame.item (stands_to old.site from frame)
   pub pushed : sent new.uplink ≡ sent old.uplink ++ drop (length old.site.submissions) new.site.submissions

@@ -10,7 +10,7 @@ use crate::parcel::Parcel;
 use crate::repo_end::RepoEnd;
 use crate::wires::Wires;
 use mv_hub::{Entry, Hub, Parties};
-use mv_link::Frame;
+use mv_link::{Frame, Item};
 use mv_machine::{Limits, Refusal, Reply};
 use mv_message::{Message, Party, Shared};
 use std::alloc::{AllocError, Global};
@@ -152,7 +152,7 @@ impl HubEnd {
             Ok(frame) => frame,
             Err(fault) => return Reply::Refused(Refusal::from(fault)),
         };
-        let Ok(parcel) = Parcel::of_frame(self.alloc, &frame) else {
+        let Ok(parcel) = copied(self.alloc, &frame) else {
             return Reply::Refused(Refusal::Memory);
         };
         let Ok(relayed) = self.hub.relay(from, to) else {
@@ -180,7 +180,7 @@ impl HubEnd {
             Ok(frame) => frame,
             Err(fault) => return Reply::Refused(Refusal::from(fault)),
         };
-        let Ok(again) = Parcel::of_frame(self.alloc, &frame) else {
+        let Ok(again) = copied(self.alloc, &frame) else {
             return Reply::Refused(Refusal::Memory);
         };
         self.put(from, to, again);
@@ -250,5 +250,21 @@ impl HubEnd {
         ensures put { self.new.wires.put ≡ with_frame self.old.wires.put from to frame }
     {
         self.wires.put(from, to, frame);
+    }
+}
+
+/// A copy of a frame: what a receipt holds can't be shared, and a message that is carried is copied. Refused for want of memory.
+fn copied(alloc: Global, frame: &Frame) -> Result<Parcel<Frame>, AllocError>
+    ensures { IfOk result (λ parcel. parcel ≡ frame.now) }
+{
+    let number = frame.number;
+    match &frame.item {
+        Item::Receipt { k, reach, query } => {
+            Ok(Parcel::of_receipt(number, *k, reach.copy(), *query))
+        }
+        Item::Carried { k, stamp, message } => {
+            let message = Parcel::of_copy(alloc, message.get())?;
+            Ok(Parcel::of_carried(number, *k, *stamp, message))
+        }
     }
 }

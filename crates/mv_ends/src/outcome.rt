@@ -1,6 +1,6 @@
 //! What is gathered of all ends of one opening: what happened in a run.
 
-ghost use Rattle.std.specs.Prelude.{◌≡◌, IsTrue};
+ghost use Rattle.std.specs.Prelude.{◌≡◌, ◌≤◌, length, IsTrue};
 ghost use Rattle.mv_machine.specs.State.{opening, is_party, submissions_of, log_of};
 ghost use Rattle.mv_machine.specs.Lawful.{IsLawful, IsWellFormed};
 ghost use Rattle.mv_machine.specs.Headline.{HeadlineHolds};
@@ -88,7 +88,8 @@ impl Outcome {
     /// What a party submitted, the oldest message first.
     pub fn sub(&self, party: Party) -> &[Shared<Message>]
         requires { IsTrue (is_party self.now party) }
-        ensures { result.now ≡ submissions_of self.now party }
+        ensures value { result.now ≡ submissions_of self.now party }
+        ensures few { length result.now ≤ self.now.limits.submissions }
     {
         self.repos[party as usize].sub()
     }

@@ -8,7 +8,7 @@
 
 ghost use Rattle.std.specs.Prelude.{◌≡◌, IfOk};
 
-use mv_link::{Frame, Item};
+use mv_link::{Frame, Item, Reached};
 use mv_message::{Message, Shared};
 use std::alloc::{AllocError, Global};
 use std::marker::Model;
@@ -74,25 +74,29 @@ impl Parcel<Shared<Message>> {
 }
 
 impl Parcel<Frame> {
-    /// A copy of a frame: what a receipt holds can't be shared, and a message that is carried is copied. Refused for want of memory.
-    pub(crate) fn of_frame(alloc: Global, frame: &Frame) -> Result<Parcel<Frame>, AllocError>
-        ensures { IfOk result (λ parcel. parcel ≡ frame.now) }
+    /// The frame of this number with a receipt, which holds nothing that is shared.
+    pub(crate) fn of_receipt(number: u32, k: u32, reach: Reached, query: bool) -> Parcel<Frame>
+        ensures { result ≡ record { number = number; item = Item.Receipt k reach query } }
     {
-        let item = match &frame.item {
-            Item::Receipt { k, reach, query } => Item::Receipt {
-                k: *k,
-                reach: reach.copy(),
-                query: *query,
-            },
-            Item::Carried { k, stamp, message } => Item::Carried {
-                k: *k,
-                stamp: *stamp,
-                message: Parcel::of_copy(alloc, message.get())?.open(),
-            },
-        };
-        let number = frame.number;
-        Ok(Parcel {
+        let item = Item::Receipt { k, reach, query };
+        Parcel {
             inside: Frame { number, item },
-        })
+        }
+    }
+
+    /// The frame of this number with a message that is carried, which is in a parcel.
+    pub(crate) fn of_carried(
+        number: u32,
+        k: u32,
+        stamp: u32,
+        message: Parcel<Shared<Message>>,
+    ) -> Parcel<Frame>
+        ensures { result ≡ record { number = number; item = Item.Carried k stamp message } }
+    {
+        let message = message.open();
+        let item = Item::Carried { k, stamp, message };
+        Parcel {
+            inside: Frame { number, item },
+        }
     }
 }

@@ -1,7 +1,7 @@
 //! A repository's end: the party, the end of its uplink that it puts messages on, and those of the links that it takes frames
 //! from.
 
-ghost use Rattle.std.specs.Prelude.{◌≡◌, [], length, IfOk, IfErr};
+ghost use Rattle.std.specs.Prelude.{◌≡◌, ◌≤◌, [], length, IfOk, IfErr};
 ghost use Rattle.mv_ends.specs.Words.{sent, IsLawfulParty, new_site};
 ghost use Rattle.mv_ends.specs.inside.Valid.{AreAccepted};
 ghost use Rattle.mv_repository.specs.Verdict.{joint_verdict};
@@ -97,6 +97,7 @@ impl RepoEnd {
     /// What the party submitted, the oldest message first.
     pub fn sub(&self) -> &[Shared<Message>]
         ensures value { result.now ≡ self.now.site.submissions }
+        ensures few { length result.now ≤ self.now.site.limit }
         ensures lawful { IsLawfulParty self.now.site.parties self.now.site.submissions self.now.site.log }
     {
         self.site.submissions()

@@ -9,24 +9,24 @@ pub(crate) const ROWS: [&str; 60] = [
     "P3 The check digit of the product code (GTIN) is wrong, so a digit is wrong or two are \
      swapped: scan the pack again.",
     "P4 The serial, batch or national number is empty: write it; a pack with no national number \
-     has null there, or is sent in version 1.",
-    "P5 The serial, batch or national number has more than 20 characters: look whether two numbers \
-     run into one another.",
+     has null there, or is sent without v.",
+    "P5 The serial, batch or national number has more than 20 bytes: look whether two numbers were \
+     joined.",
     "P6 The serial, batch or national number has a character that no number has, at the place that \
      the reply gives: look for a blank, or the separator of a scanner.",
-    "P7 The date is not six digits YYMMDD, or no calendar has it: correct it; day 00 is the last \
-     day of the month.",
+    "P7 The date is not six digits YYMMDD, or is no real date: correct it; day 00 is the last day \
+     of the month.",
     "P8 The market is not two capital letters: write FI, not fi.",
     "P9 The moment is not before the year 2100: write seconds, not milliseconds.",
     // Why a line, or the message in it, is refused.
     "M1 The line is no JSON: write each object on one line, in UTF-8 without a byte order mark, \
      and look for a comma too many or a quote that is missing.",
-    "M2 The line, or the message in it, is JSON, but no object: write one object on each line.",
+    "M2 The line, or the message in it, is JSON, but no object: write an object there.",
     "M3 A field is missing: write the field that the reply names.",
     "M4 The line or its message does not have such a field: take out the field that the reply \
      names; a national number has to come with \"v\":2.",
     "M5 A field is of another kind, as a text for a number, a number out of range, or a word that \
-     has no meaning there: write the field that the reply names as docs/FORMATS.md says.",
+     has no meaning there: the reply names it; correct it by docs/FORMATS.md.",
     "M6 A code, a date, a moment or a market is wrong: correct the field that the reply names, by \
      its fault, which is one of P1 to P9.",
     "M7 A list has no member or too many, as serial numbers are 1 to 100 and markets 1 to 32: send \
@@ -37,14 +37,14 @@ pub(crate) const ROWS: [&str; 60] = [
     "C2 Something is open already: take the line out, since a run has one open.",
     "C3 A line of a plan neither opens nor submits nor verifies: take it out, since routing and \
      applying go by themselves.",
-    "H1 The open names no party: name at least one, if with no market.",
+    "H1 The open names no party: name at least one; it may have no market.",
     "H2 The open names more than 64 parties: let one repository serve several Member States.",
     "H3 The open has a market that two parties serve, or one twice: name each market once.",
-    "O1 The window of the open is not 2 to 256: write how many frames of a link are kept to be \
+    "O1 The window of the open is not 2 to 256: write how many items of a link may wait or be \
      repeated.",
-    "O2 The wire of the open is not 1 to 64: write how many frames of a link are on their way at \
-     once.",
-    "O3 The uplink of the open is not 1 to 64: write how many messages of a party wait for the \
+    "O2 The wire of the open is not 1 to 64: write how many frames of a link may be on their way \
+     at once.",
+    "O3 The uplink of the open is not 1 to 64: write how many messages of a party may wait for the \
      hub.",
     "O4 The submissions of the open are not 1 to 1,000,000: write how many messages a party may \
      submit in the run.",
@@ -63,10 +63,9 @@ pub(crate) const ROWS: [&str; 60] = [
     "S8 The wire is empty: relay or repeat a frame, or go on where carrying has come to its end.",
     "S9 No frame of that number was relayed yet: look whether the number is right, or relay it first.",
     "S10 The frame is no longer kept, since as many items as the window holds were put on the link \
-     after it: correct the file before the loss, or open with a greater window, and run again from \
-     the first line.",
-    "S11 Every item of the link was relayed: go on, since what was lost on the way comes again by \
-     repeat.",
+     after it: put the repeat earlier in the file, or open with a greater window, and run again \
+     from the first line.",
+    "S11 Every item of the link was relayed: go on; give what was lost again by repeat.",
     "S12 The link is closed already: go on, since there is nothing to do.",
     "S13 The front frame carries a query, and its answer has no room: route the messages of that \
      party, then apply again; where its submissions are used up, raise them in the open and run \
@@ -97,8 +96,8 @@ pub(crate) const ROWS: [&str; 60] = [
      and run the whole input again.",
     "V2 The output could not be written: make room, and run the whole input again; where its \
      reader ended first, as head does, nothing is wrong.",
-    "V3 Memory was refused outside of a step: give the program more memory, and run the whole \
-     input again.",
+    "V3 Memory was refused, in a plan or outside of a step: give the program more memory, and run \
+     the whole input again.",
     "V4 The input has more than 1,000,000 lines: make the run smaller, or, for canon, split the \
      input.",
     "V5 A line has more than 65,536 bytes: look for a line feed that is missing.",

@@ -6,7 +6,7 @@ use Rattle.mv_pack.specs.declared.fault.PackFault.{PackFault}
 use Rattle.mv_json.specs.Fields.{field_name as message_field_name}
 use Rattle.mv_json.specs.Keys.{ItemsKeysAscend, MembersKeysAscend}
 use Rattle.mv_json.specs.declared.fault.MessageFault.{MessageFault}
-use Rattle.mv_json.proofs.OrderLemmas.{rises, strictly_sorted}
+use Rattle.mv_json.proofs.CallerLemmas.{rises, strictly_sorted}
 use Rattle.mv_repository.specs.declared.effect.Effect.TheVariants.{Uploaded}
 use Rattle.mv_repository.specs.declared.verdict.Joint.TheVariants.{Decided}
 use Rattle.mv_repository.specs.declared.verdict.Verdict.{Verdict}
@@ -20,12 +20,12 @@ use Rattle.mv_machine.specs.declared.reply.Reply.TheVariants as replies
 use Rattle.mv_format.specs.declared.line_fault.LineFault.TheVariants as line
 
 -- there is no object in a list of numbers
-wholes_ascend : (ns : List ℕ) → ItemsKeysAscend (wholes ns)
+pub wholes_ascend : (ns : List ℕ) → ItemsKeysAscend (wholes ns)
 wholes_ascend [] = tt
 wholes_ascend (n ∷ ns) = (tt, wholes_ascend ns)
 
 -- an object is ordered whose keys rise, as those of the objects that it holds do
-ordered : (members : Members) → rises (slice_cmp nat_cmp) (keys_of members) ≡ true → MembersKeysAscend members → IsOrdered (object members)
+pub ordered : (members : Members) → rises (slice_cmp nat_cmp) (keys_of members) ≡ true → MembersKeysAscend members → IsOrdered (object members)
 ordered members up each = (members, refl, (strictly_sorted (slice_cmp nat_cmp) (keys_of members) up, each))
 
 pack_ordered : (line : Option ℕ) (fault : PackFault) (field : List ℕ) → IsOrdered (refused_pack line fault field)

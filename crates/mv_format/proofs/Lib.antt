@@ -4,3 +4,4 @@ pub mod WritingLemmas
 pub mod KeyOrderLemmas
 pub mod RequestLawsLemmas
 pub mod LinePartLemmas
+pub mod CallerLemmas

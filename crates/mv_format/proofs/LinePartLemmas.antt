@@ -4,7 +4,7 @@ use Rattle.mv_format.specs.declared.line_part.LineEntry.{LineEntry}
 use Rattle.json.specs.Json.{value}
 use Rattle.serde_json.specs.Read.{number_of}
 use Rattle.mv_json.specs.inside.Parts.{IsOneOf}
-use Rattle.mv_json.proofs.ValueLemmas.{utf8_test}
+use Rattle.mv_json.proofs.CallerLemmas.{utf8_test}
 use Rattle.mv_format.specs.declared.line_part.LinePart.{LinePart}
 use Rattle.mv_format.specs.inside.LineParts.{Asks, BeginWithEntries, BeginWithPart, HasEntries, IsPart, TellsPart, entry, entry_name}
 use Rattle.json.specs.Token as token

@@ -15,9 +15,7 @@ pub use Rattle.mv_format.specs.declared.line_fault.LineFault.TheVariants.{Kind, 
 pub use Rattle.mv_format.specs.inside.LineParts.{market_item, market_list, read_all, with_front}
 unfoldable pub use Rattle.mv_format.specs.inside.LineParts.{walked_lists_at}
 pub use Rattle.mv_format.specs.inside.Writing.{entry_tokens, member_tokens}
-pub use Rattle.mv_json.proofs.MetLemmas.{AreMet, all_met, begun_shorter, converted_some, known_only, none_met, one_more_met, stands, text_begins, whole_begins}
-pub use Rattle.mv_json.proofs.ReadingLemmas.{all_some, each_back}
-pub use Rattle.mv_json.proofs.ReadsLemmas.{none_unknown, read_is_legal, reads_back}
+pub use Rattle.mv_json.proofs.CallerLemmas.{AreMet, all_met, all_some, begun_shorter, converted_some, each_back, known_only, none_met, none_unknown, one_more_met, read_is_legal, reads_back, stands, text_begins, whole_begins}
 pub use Rattle.mv_json.specs.Members.{keys_of}
 pub use Rattle.mv_json.specs.Reading.{as_list, each_of, map_err, ◌and_then◌}
 pub use Rattle.serde_json.specs.Data.{Data, Items, Members, array, item, no_items, object, string, unsigned}

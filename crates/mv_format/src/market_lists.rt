@@ -69,7 +69,7 @@ fn are_text_lists(list: &[Value]) -> bool
 }
 
 /// Whether a value is a list of texts.
-#[tactic(auto, using(mv_json::proofs::ReadingLemmas::all_are_texts))]
+#[tactic(auto, using(mv_json::proofs::CallerLemmas::all_are_texts))]
 fn is_text_list(value: &Value) -> bool
     ensures { result ≡ is_some (as_list as_str (view value.now)) }
 {

@@ -45,7 +45,7 @@ impl Request {
     /// The first of these that holds is the fault: M1, the bytes are no JSON; M2, the value is no object; M3 or M5 of
     /// `do`; M4 with the first key, in byte order, that such lines do not have; then the faults of the fields, in byte
     /// order of their names. Want of memory may stand in place of any answer.
-    #[tactic(auto, using(mv_json::proofs::ValueLemmas::utf8_test, mv_json::proofs::ValueLemmas::utf8_fact))]
+    #[tactic(auto, using(mv_json::proofs::CallerLemmas::utf8_test, mv_json::proofs::CallerLemmas::utf8_fact))]
     pub fn read(alloc: Global, line: &[u8]) -> Result<Request, LineFault>
         ensures { GivesOr result (read_line line.now) LineFault.Memory }
     {

@@ -2,11 +2,11 @@
 use Rattle.std.specs.Map.{lookup}
 use Rattle.std.specs.declared.alloc.Global.{Global}
 use Rattle.std.specs.declared.vec.Vec.{Vec}
-use Rattle.mv_hub.proofs.Words.{◌≡◌, ℕ, List, [], ◌∷◌, ◌++◌, Option, Some, None, refl, arith, option_to_list, unwrap_or, rules, cond, append-nil, AreTables, BatchKey, Entry, LinkTable, Listing, catalogue_after, catalogue_in, filter_map-append, is_same_batch, is_same_listing, last_or, last_product, link_in, linked_in, linked_to, listing_equiv, no_catalogue, option_or, product_in}
+use Rattle.mv_hub.proofs.Words.{◌≡◌, ℕ, List, [], ◌∷◌, ◌++◌, Option, Some, None, refl, arith, option_to_list, unwrap_or, rules, cond, append-nil, AreTables, BatchKey, Entry, LinkTable, Listing, catalogue_after, catalogue_in, filter_map-append, fold-append, insert_all, is_same_batch, is_same_listing, last_or, last_product, link_in, linked_in, linked_to, no_catalogue, option_or, product_in}
 use Rattle.mv_message.specs.declared.message.Product.{Product}
 use Rattle.mv_hub.specs.declared.catalogue.Catalogue.{Catalogue}
 use Rattle.mv_hub.specs.Catalogue.{listing_in, batches_of}
-use Rattle.mv_hub.proofs.ListingLemmas.{batch-same, listing-same, add_to, distinct-named}
+use Rattle.mv_hub.proofs.ListingLemmas.{batch-same}
 
 -- an empty record says nothing
 pub tables_none : AreTables [] [] []
@@ -24,9 +24,9 @@ unfolding last_product
 last_product-push entries entry gtin = grind (arith, filter_map-append (product_in gtin) entries (entry ∷ []), last_or-append {A = Product})
 
 batches-push : (entries : List Entry) (entry : Entry) (gtin : List ℕ)
-    → batches_of (entries ++ entry ∷ []) gtin ≡ add_to is_same_listing (batches_of entries gtin) (listing_in gtin entry)
+    → batches_of (entries ++ entry ∷ []) gtin ≡ insert_all is_same_listing (batches_of entries gtin) (option_to_list (listing_in gtin entry))
 unfolding batches_of
-batches-push entries entry gtin = distinct-named is_same_listing listing_equiv listing-same (listing_in gtin) entries entry
+batches-push entries entry gtin = grind (arith, filter_map-append (listing_in gtin) entries (entry ∷ []), fold-append)
 
 links-push : (entries : List Entry) (entry : Entry) (batch : BatchKey)
     → linked_to (entries ++ entry ∷ []) batch ≡ linked_to entries batch ++ option_to_list (link_in batch entry)

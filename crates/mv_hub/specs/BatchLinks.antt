@@ -29,7 +29,7 @@ abbrev pub IsChain : (BatchKey → List BatchKey) → BatchKey → List BatchKey
 IsChain links batch [] other = Contains (links batch) other
 IsChain links batch (next ∷ between) other = Contains (links batch) next × IsChain links next between other
 
--- a batch was made of another by one or more routed repacks, each of packs that the one before had made: a chain of one or more links leads
--- to it
+-- a chain of one or more links leads from a batch to another: of the first the other was made by repacks that were routed, whichever packs they took,
+-- and in whatever order they were routed
 abbrev pub IsDescendant : List Entry → BatchKey → BatchKey → Type 0
 IsDescendant entries batch other = (between : List BatchKey) × IsChain (linked_to entries) batch between other

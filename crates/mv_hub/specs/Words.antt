@@ -1,4 +1,5 @@
 -- The names of the library, and of the crates below that the definitions cite, passed on from one place. Declares nothing.
+pub use Rattle.indexmap.specs.IndexSet.{insert_all}
 pub use Rattle.mv_hub.specs.declared.entry.Entry.{Entry}
 pub use Rattle.mv_hub.specs.declared.entry.Entry.TheVariants.{Closed, Routed}
 pub use Rattle.mv_hub.specs.declared.fault.HubFault.{HubFault}

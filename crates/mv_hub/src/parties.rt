@@ -1,8 +1,8 @@
 //! The parties and the markets that each serves.
 
-ghost use Rattle.std.specs.Prelude.{◌≡◌, ◌≤◌, ◌&&◌, ◌==◌, ℕ, map, length, nat_lt, IfOk};
+ghost use Rattle.std.specs.Prelude.{◌≡◌, ◌≤◌, ◌&&◌, ◌==◌, ℕ, false, map, length, nat_lt, IfOk};
 ghost use Rattle.mv_hub.specs.Fault.{Gives};
-ghost use Rattle.mv_hub.specs.Parties.{parties_of, serving, serves_one, served_by};
+ghost use Rattle.mv_hub.specs.Parties.{all_markets, has_twice, parties_of, serving, serves_one, served_by};
 ghost use Rattle.mv_link.specs.PartySets.{has_party};
 
 use crate::HubFault;
@@ -72,9 +72,10 @@ impl Parties {
         self.lists.len() as u32
     }
 
-    /// The markets of each party, party 0 first, as they were given.
+    /// The markets of each party, party 0 first, as they were given. No market stands there twice.
     pub fn lists(&self) -> &[Markets]
-        ensures { result.now ≡ self.now }
+        ensures value { result.now ≡ self.now }
+        ensures once { has_twice (all_markets self.now) ≡ false }
     {
         self.lists.as_slice()
     }

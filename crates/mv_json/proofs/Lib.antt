@@ -7,3 +7,4 @@ pub mod ReadsLemmas
 pub mod OrderLemmas
 pub mod MetLemmas
 pub mod PartLemmas
+pub mod CallerLemmas

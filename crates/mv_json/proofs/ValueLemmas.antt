@@ -34,7 +34,8 @@ utf8_fact bytes = IsUtf8-from_is_utf8 bytes
 
 -- ---- the keys of the values of messages stand in byte order
 
-texts_ascend : (texts : List (List ℕ)) → ItemsKeysAscend (strings texts)
+-- there is no object in a list of texts
+pub texts_ascend : (texts : List (List ℕ)) → ItemsKeysAscend (strings texts)
 texts_ascend [] = tt
 texts_ascend (text ∷ texts) = (tt, texts_ascend texts)
 

@@ -29,8 +29,7 @@ unfoldable pub use Rattle.mv_json.specs.inside.Tokens.{PutsValue}
 pub use Rattle.mv_message.specs.declared.found.Found.{Found}
 pub use Rattle.mv_message.specs.declared.found.Found.TheVariants.{Absent, Present}
 pub use Rattle.mv_message.specs.declared.standing.Standing.{Standing}
-pub use Rattle.mv_pack.proofs.ExpiryLemmas.{read_expiry_is_expiry, read_expiry_text}
-pub use Rattle.mv_pack.proofs.GtinLemmas.{read_gtin_is_gtin, read_gtin_of}
+pub use Rattle.mv_pack.proofs.CallerLemmas.{read_expiry_is_expiry, read_expiry_text, read_gtin_is_gtin, read_gtin_of}
 pub use Rattle.mv_pack.specs.Market.{IsMarket, read_market}
 pub use Rattle.mv_pack.specs.declared.key.PackKey.{PackKey}
 pub use Rattle.serde_json.proofs.Texts.{print-outline}

@@ -68,7 +68,8 @@ impl Outgoing {
 
     /// How many items were relayed.
     pub fn sent(&self) -> u32
-        ensures { result ≡ self.now.sent }
+        ensures value { result ≡ self.now.sent }
+        ensures within { result ≤ self.now.total }
     {
         self.sent
     }

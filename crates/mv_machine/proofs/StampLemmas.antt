@@ -1,8 +1,7 @@
 -- The stamps of a log name places of the record, each of which has one sender; and the turns of the items on one link rise. So no stamp
 -- stands twice in a log.
 use Rattle.mv_machine.proofs.Words.{◌≡◌, ℕ, zero, suc, ◌+◌, ◌<◌, List, [], ◌∷◌, length, None, Option, Some, refl, ap, subst, arith, option_and_then, slice_get, AllByRecursion, Entry, IsLawful, Item, LogEntry, State, eq-eqb, items_from, log_of}
-use Rattle.mv_repository.proofs.SameAboutLemmas.{same_about}
-use Rattle.mv_repository.proofs.StampsLemmas.{stamp_in, stamp_at, HasNoStampTwice, distinct-stamps}
+use Rattle.mv_repository.proofs.CallerLemmas.{HasNoStampTwice, distinct-stamps, same_about, stamp_at, stamp_in}
 use Rattle.mv_machine.specs.Stamps.{StampsAreDistinct, RepositoriesAgree}
 use Rattle.mv_machine.proofs.PutLemmas.{IsPut, ArePut, turn, put-rest, log-put, entry-put}
 

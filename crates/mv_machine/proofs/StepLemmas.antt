@@ -84,9 +84,6 @@ module _ (st : State) where
   asked-changes party key reply new met = meets-changes (Verify party key) (ask st party key) reply new (ask-changes party key) met
 
 -- where the reply says that nothing has changed, nothing has
-pub unchanged : {old new : State} {step : Step} {reply : Reply} → Change old step reply new → IsTrue (changes_nothing reply) → new ≡ old
-unchanged h1 h2 = grind arith
-
 pub refusals_change_nothing : InSteps (λ old reply new. IsTrue (changes_nothing reply) → new ≡ old)
 refusals_change_nothing = grind (arith, step-changes, asked-changes)
 

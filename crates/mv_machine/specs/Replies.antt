@@ -64,8 +64,8 @@ changes_nothing (Joint joint) = true
 changes_nothing (Refused refusal) = true
 changes_nothing _ = false
 
--- a reply that want of memory may stand in place of, since the step takes memory: any but those behind which nothing has changed, and
--- those to a frame that is dropped or lost
+-- a reply that want of memory may stand in place of, since the step takes memory or shares a message: any but those behind which nothing has
+-- changed, and those to a frame that is dropped or lost
 abbrev pub takes_memory : Reply → Bool
 takes_memory (Old number) = false
 takes_memory (Gap number expected) = false

@@ -19,7 +19,7 @@ pub enum Reply {
     },
     /// The repository of the party holds the pack, and this is its verdict.
     Known(Verdict),
-    /// The other repositories are asked, by the `q`-th message of the party.
+    /// The `q`-th message of the party is a query about the pack, which waits to be routed to the other repositories.
     Asked {
         /// The number of the query among the messages of the party, counted from one.
         q: u32,

@@ -48,7 +48,7 @@ pub enum Step {
         /// The number of the frame on its link, counted from one.
         number: u32,
     },
-    /// A link is closed: no message that the hub routes from then on goes over it.
+    /// A link is closed: nothing that the hub routes from then on goes over it, neither message nor receipt.
     Close {
         /// The sender of the link.
         from: Party,

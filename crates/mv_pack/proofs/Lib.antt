@@ -5,3 +5,4 @@ pub mod MarketLemmas
 pub mod CodeLemmas
 pub mod ExpiryLemmas
 pub mod MomentLemmas
+pub mod CallerLemmas

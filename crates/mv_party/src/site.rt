@@ -61,7 +61,8 @@ impl Model for Site {
 }
 
 impl Site {
-    /// A party that did nothing yet, one of so many, which submits so many messages at most. Refused for want of memory.
+    /// A party that did nothing yet, one of so many, which submits so many messages at most. Its number is not compared with theirs.
+    /// Refused for want of memory.
     pub fn new(alloc: Global, party: Party, parties: u32, limit: u32) -> Result<Site, AllocError>
         requires { limit ≤ SUBMISSIONS_LIMIT }
         ensures { IfOk result (λ site. site ≡ new_site party parties limit) }

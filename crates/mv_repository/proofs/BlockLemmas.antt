@@ -1,5 +1,5 @@
 -- Blocks of statuses, over any places and any rule by which a pack goes from one to the next.
-use Rattle.mv_repository.proofs.Words.{AllByRecursion, AreBlocks, Block, Cut, IsCovered, IsCut, IsFront, IsSummary, List, PARTIES_LIMIT, PartySet, Placed, [], ap, append-nil, append_assoc, arith, at_drop_more, common_steps, drop, drop-append-le, drop-drop, drop_at, drop_of_length-le, elements, fold, fold-append, get_or, get_or_default, has_party, insert, length, length-append, length-drop, length-take-le, nat_tests, set, subst, suc, sym, take, take-add, take-append-drop, take-append-le, take_at, take_more, take_more_set, true, without, zero, ℕ, ◌%◌, ◌++◌, ◌+◌, ◌-◌, ◌<◌, ◌==◌, ◌||◌, ◌∙◌, ◌∷◌, ◌≡◌, ◌≤◌}
+use Rattle.mv_repository.proofs.Words.{AllByRecursion, AreBlocks, Block, Cut, IsCovered, IsCut, IsFront, IsSummary, List, PARTIES_LIMIT, PartySet, Placed, [], ap, append-nil, append_assoc, arith, at_drop_more, common_steps, drop, drop-append-le, drop-drop, drop_at, drop_of_length-le, elements, fold, fold-append, get_or, get_or_default, has_party, insert, length, length-append, length-drop, length-take-le, nat_tests, set, subst, suc, sym, take, take-add, take-append-drop, take-append-le, take_at, take_more_set, true, without, zero, ℕ, ◌%◌, ◌++◌, ◌+◌, ◌-◌, ◌<◌, ◌==◌, ◌||◌, ◌∙◌, ◌∷◌, ◌≡◌, ◌≤◌}
 
 -- lists that are cut
 cut-take : {A : Type 0} (n : ℕ) (xs ys : List A) → n ≤ length xs → take n (take n xs ++ ys) ≡ take n xs

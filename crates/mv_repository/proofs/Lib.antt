@@ -29,3 +29,4 @@ pub mod LentLemmas
 pub mod StampsLemmas
 pub mod SameAboutLemmas
 pub mod Lemmas
+pub mod CallerLemmas

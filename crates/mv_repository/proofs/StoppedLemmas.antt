@@ -1,15 +1,15 @@
 -- The batches that are recalled and the products that are withdrawn, after one more entry; and what stands in a table of keys.
-use Rattle.mv_repository.proofs.Words.{◌≡◌, ◌∷◌, ◌++◌, ℕ, List, [], refl, sym, ◌∙◌, ap, Bool, true, false, fold, true≢false, same_text, flat_map, lookup, keys_of, flat_map-append, fold-append, append-nil, Some, is_some-lookup, insert_entry, insert_key, keys_insert_entry, BatchKey, Recall, Withdraw, Item, Carried, LogEntry, recalled_in, is_recall_of, is_withdrawal_of, withdrawn_in, each_once, comes_first, arith, nat_tests}
+use Rattle.mv_repository.proofs.Words.{◌≡◌, ◌∷◌, ◌++◌, ℕ, List, [], refl, sym, ◌∙◌, ap, Bool, true, false, fold, true≢false, same_text, flat_map, lookup, keys_of, flat_map-append, fold-append, append-nil, Some, is_some-lookup, insert_entry, insert_key, keys_insert_entry, BatchKey, Recall, Withdraw, Item, Carried, LogEntry, recalled_in, is_recall_of, is_withdrawal_of, withdrawn_in, insert_all, comes_first, arith, nat_tests}
 use Rattle.mv_repository.proofs.KeptLemmas.{same_batch, batch-self, text-self}
 
 module _ {K : Type 0} (same : K → K → Bool) (keys_in : LogEntry → List K) (log : List LogEntry) (entry : LogEntry) where
   abbrev before : List K
-  before = each_once same (flat_map keys_in log)
+  before = insert_all same [] (flat_map keys_in log)
 
-  once-more : each_once same (flat_map keys_in (log ++ entry ∷ [])) ≡ fold (insert_key same) before (keys_in entry ++ [])
-  once-more = ap (each_once same) (flat_map-append keys_in log (entry ∷ [])) ∙ fold-append (insert_key same) [] (flat_map keys_in log) (keys_in entry ++ [])
+  once-more : insert_all same [] (flat_map keys_in (log ++ entry ∷ [])) ≡ fold (insert_key same) before (keys_in entry ++ [])
+  once-more = ap (insert_all same []) (flat_map-append keys_in log (entry ∷ [])) ∙ fold-append (insert_key same) [] (flat_map keys_in log) (keys_in entry ++ [])
 
-  pub once-all : (keys : List K) → keys_in entry ≡ keys → each_once same (flat_map keys_in (log ++ entry ∷ [])) ≡ fold (insert_key same) before keys
+  pub once-all : (keys : List K) → keys_in entry ≡ keys → insert_all same [] (flat_map keys_in (log ++ entry ∷ [])) ≡ fold (insert_key same) before keys
   once-all keys e = once-more ∙ ap (fold (insert_key same) before) (append-nil (keys_in entry) ∙ e)
 
 pub no-recall : (item : Item) → ((batch : BatchKey) → is_recall_of batch item ≡ false) → recalled_in item ≡ []

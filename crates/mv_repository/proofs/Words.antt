@@ -9,11 +9,10 @@ pub use Rattle.mv_pack.specs.declared.key.PackKey.{PackKey}
 pub use Rattle.mv_repository.specs.Agreement.{AgreeOn, HasDistinctStamps, HaveSameAbout, HaveSameEntries, HaveSameHistory, Sent, SentHistory, SentStatus, about, as_sent, batch_in, bears_on, history_of, is_batch_recalled, sent_in, sent_of, sent_status, unplaced}
 pub use Rattle.mv_repository.specs.Order.{Ascends, IsOrderOf, Placed, ordered, passes, put_in, stands_before}
 pub use Rattle.mv_repository.specs.Pack.{ChangeNamesStatus, KnownPack, NamesStatus, batch_standing, change_effect, effect_after, effect_of, entries_before, has_pack, held_of, is_active, is_done, is_recall_of, is_recalled_by, is_withdrawal_of, is_withdrawn, is_withdrawn_by, known_pack, known_pack_from, lasting_effect, new_pack, pack_after_item, pack_state}
-pub use Rattle.mv_repository.specs.Repository.{each_once, items_from, mastered_in, product_of, product_under, recalled_in, serials_in, serials_of, uploaded_in, uploaded_packs}
-pub use Rattle.mv_repository.specs.Stops.{FirstStops, entry_at, entry_of, first_stops, is_before, message_in, no_entry, standing_at, withdrawn_in}
-pub use Rattle.mv_repository.specs.Track.{first_upload, is_status_of, is_upload_of, pack_changed, pack_grown, pack_made_by, pack_step, statuses_of}
+pub use Rattle.mv_repository.specs.Repository.{items_from, mastered_in, product_of, product_under, recalled_in, serials_in, serials_of, uploaded_in, uploaded_packs}
+pub use Rattle.mv_repository.specs.Bearing.{FirstStops, entry_at, entry_of, first_stops, first_upload, is_before, is_status_of, is_upload_of, message_in, no_entry, pack_changed, pack_grown, pack_made_by, pack_step, standing_at, statuses_of, withdrawn_in}
 pub use Rattle.mv_repository.specs.Verdict.{asked_parties, finding_in, found_active, found_explained, has_answered, joint_verdict, query_reach, verdict_when}
-pub use Rattle.mv_repository.specs.Words.{Active, BatchStanding, Block, Carried, Counted, Decided, Effect, Found, HashSet, Held, Item, LogEntry, Made, Master, Message, Own, PARTIES_LIMIT, PartySet, Product, Recall, Receipt, Slot, Standing, Status, Stop, Stops, Upload, Withdraw, bytes_eq, insert_key, keys_of, lookup, option_and_then, option_map, option_map_or, option_or, slice_get, unwrap_or}
+pub use Rattle.mv_repository.specs.Words.{Active, BatchStanding, Block, Carried, Counted, Decided, Effect, Found, HashSet, Held, Item, LogEntry, Made, Master, Message, Own, PARTIES_LIMIT, PartySet, Product, Recall, Receipt, Slot, Standing, Status, Stop, Stops, Upload, Withdraw, bytes_eq, insert_all, insert_key, keys_of, lookup, option_and_then, option_map, option_map_or, option_or, slice_get, unwrap_or}
 pub use Rattle.mv_repository.specs.declared.blocks.Cut.{Cut}
 pub use Rattle.mv_repository.specs.declared.blocks.TheConstants.{BLOCK}
 pub use Rattle.mv_repository.specs.declared.history.Places.{Places}

@@ -4,8 +4,7 @@ use Rattle.mv_repository.specs.Words.{ℕ, nat_eq, List, Bool, false, filter, Op
 use Rattle.mv_repository.specs.Order.{Placed, ordered}
 use Rattle.mv_repository.specs.Pack.{KnownChange, KnownPack, has_pack, known_pack, pack_state, is_recalled, is_withdrawn}
 use Rattle.mv_repository.specs.Verdict.{local_verdict}
-use Rattle.mv_repository.specs.Stops.{first_stops, is_before}
-use Rattle.mv_repository.specs.Track.{first_upload, statuses_of}
+use Rattle.mv_repository.specs.Bearing.{first_stops, first_upload, is_before, statuses_of}
 
 -- a message that was carried, with its sender and its stamp
 pub record Sent : Type 0 where

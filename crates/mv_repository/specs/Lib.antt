@@ -3,8 +3,7 @@ pub mod Order
 pub mod Pack
 pub mod Verdict
 pub mod Repository
-pub mod Stops
-pub mod Track
+pub mod Bearing
 pub mod Agreement
 pub mod Clauses
 pub mod inside

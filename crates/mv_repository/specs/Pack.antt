@@ -23,7 +23,7 @@ pub record KnownPack : Type 0 where
   pub standing : Standing
   pub change : Option KnownChange
 
--- a pack stands active: it may be supplied, unless its recall, its withdrawal or its expiry stands against that
+-- a pack stands active: it may be supplied, unless the recall of its batch, the withdrawal of its product or its expiry stands against that
 abbrev pub is_active : Standing → Bool
 is_active standings.Active = true
 is_active _ = false
@@ -171,7 +171,7 @@ abbrev pub entries_before : List LogEntry → LogEntry → List Placed
 entries_before log entry = filter (λ placed. not (passes (record { place = length log; entry = entry }) placed)) (ordered log)
 
 -- the effect of an upload: how many packs it makes, which are those that these entries don't make, one that it names twice
--- once; and how many of those that it names were there
+-- once; and how many of its serial numbers make none
 abbrev pub upload_effect : List Placed → List ℕ → List (List ℕ) → Effect
 upload_effect before gtin serials =
     let new = distinct_count bytes_eq (filter (λ serial. not (is_some (known_pack (pack_key gtin serial) before))) serials) in

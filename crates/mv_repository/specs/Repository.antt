@@ -2,7 +2,7 @@
 -- 35(1)), the oldest entry first. No table is part of it. Its products, packs and verdicts go by stamp order, and what is listed goes in
 -- the order of arrival.
 use Rattle.std.specs.Prelude.{◌∷◌, ◌++◌, if◌then◌else◌, ◌==◌}
-use Rattle.mv_repository.specs.Words.{ℕ, List, [], Option, Some, None, bytes_eq, filter_map, last_or, Master, Product, Item, Carried, LogEntry, map, filter, length, Bool, false, flat_map, option_map_or, distinct_count, PackKey, BatchKey, Upload, Status, fold, insert_key, Counts, Recall, is_same_pack, is_same_batch, pack_key}
+use Rattle.mv_repository.specs.Words.{ℕ, List, [], Option, Some, None, bytes_eq, filter_map, last_or, Master, Product, Item, Carried, LogEntry, map, filter, length, false, flat_map, option_map_or, distinct_count, PackKey, BatchKey, Upload, Status, insert_all, Counts, Recall, is_same_pack, is_same_batch, pack_key}
 use Rattle.mv_repository.specs.Order.{ordered}
 use Rattle.mv_repository.specs.Pack.{is_active, pack_state}
 
@@ -47,10 +47,6 @@ abbrev pub recalled_in : Item → List BatchKey
 recalled_in (Carried k stamp (Recall key at)) = key ∷ []
 recalled_in _ = []
 
--- each of these keys once, as the first of those that are the same
-abbrev pub each_once : {K : Type 0} → (K → K → Bool) → List K → List K
-each_once same keys = fold (insert_key same) [] keys
-
 -- the serial numbers of a product that an item names: those of an upload, or that of a status
 abbrev pub serials_in : List ℕ → Item → List (List ℕ)
 serials_in gtin (Carried k stamp (Upload named batch expiry national serials)) = if bytes_eq named gtin then serials else []
@@ -59,7 +55,7 @@ serials_in gtin _ = []
 
 -- the serial numbers of a product that uploads and statuses of a log name, each once, in the order in which each came first
 abbrev pub serials_of : List LogEntry → List ℕ → List (List ℕ)
-serials_of log gtin = each_once bytes_eq (flat_map (λ entry. serials_in gtin entry.item) log)
+serials_of log gtin = insert_all bytes_eq [] (flat_map (λ entry. serials_in gtin entry.item) log)
 
 -- all packs uploaded in a log, in the order of arrival
 abbrev pub uploaded_packs : List LogEntry → List PackKey

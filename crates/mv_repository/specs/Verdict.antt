@@ -12,7 +12,7 @@ abbrev pub found_of : PackKey → List LogEntry → Found
 found_of key log = option_map_or (λ held. founds.Present held.batch held.expiry held.national held.standing
     (is_recalled (batch_key key.gtin held.batch) log) (is_withdrawn key.gtin log)) (pack_state key log) founds.Absent
 
--- the answer to an item from a sender, which is carried after these entries arrived; only a query calls for one
+-- the answer that an item from a sender calls for, by these entries, which arrived before it; only a query calls for one
 abbrev pub answer_after : List LogEntry → ℕ → Item → Option Message
 answer_after log sender (Carried k stamp (Query key)) = Some (Answer sender k key (found_of key log))
 answer_after log sender _ = None

@@ -11,7 +11,7 @@ use crate::{Effect, LogEntry};
 use mv_link::{PARTIES_LIMIT, PartySet};
 use mv_message::Party;
 
-/// A block has so many statuses as it is made, and at most twice as many.
+/// A block is made of at least so many statuses, and holds at most twice as many.
 const BLOCK: usize = 64;
 
 /// What some statuses of a pack do that stand one behind the other.

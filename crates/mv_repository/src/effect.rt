@@ -26,9 +26,10 @@ pub enum Effect {
     Expired,
     /// E10: the batch of the pack to be reverted is recalled.
     Recalled,
-    /// E11: the item was noted in the log, and changed nothing else.
+    /// E11: the item was noted in the log, and changed no product, no batch and no pack. A receipt or an answer may bear on a verdict.
     Noted,
-    /// E12: by the entries that stand before it, so many packs of the upload were new, and so many were there.
+    /// E12: by the entries that stand before it, the upload makes `new` packs, and `old` of its serial numbers make none: they were
+    /// named before, or twice in it.
     Uploaded { new: u64, old: u64 },
     /// E13: the product of the pack to be reverted is withdrawn.
     Withdrawn,

@@ -113,7 +113,7 @@ impl<'a> History<'a> {
         }
     }
 
-    /// The first recall of the pack's batch.
+    /// The first recall of the pack's batch. There is none where the pack is not held.
     pub fn recall(&self) -> Option<&'a LogEntry>
         ensures { option_copied result ≡ option_map entry_of self.now.recall }
     {
@@ -150,8 +150,7 @@ pub struct Statuses<'a> {
 }
 
 impl<'a> Model for Statuses<'a> {
-    ghost use Rattle.mv_repository.specs.Clauses.{AllByRecursion, AnEntry, List, entry_at, entry_of, map};
-    ghost use Rattle.mv_repository.specs.inside.Track.{IsAt};
+    ghost use Rattle.mv_repository.specs.Clauses.{AllByRecursion, AnEntry, IsAt, List, entry_at, entry_of, map};
 
     ghost Value = { List AnEntry };
 

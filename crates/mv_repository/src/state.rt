@@ -95,7 +95,7 @@ pub(crate) struct Basis<'a> {
 }
 
 impl Basis<'_> {
-    /// The place of the entry by which the pack stands in front of all its statuses.
+    /// The place of the entry by which the pack stands in front of all its statuses: 0 where no upload names it.
     pub fn start(&self) -> u32
         ensures { result ≡ start_in self.now }
     {

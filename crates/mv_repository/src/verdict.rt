@@ -27,7 +27,7 @@ pub enum Local {
 /// What all repositories that were asked say of a pack.
 #[derive(Clone, Copy, Debug, PartialEq, Eq)]
 pub enum Joint {
-    /// No such query was sent, as far as the repository knows.
+    /// No receipt of such a query was applied.
     NotAsked,
     /// That many of the parties that were asked have not answered yet.
     Pending { left: u32 },

@@ -1,5 +1,5 @@
 pub mod Words
-pub mod NamingLemmas
+pub mod OrderLemmas
 pub mod PlaceLemmas
 pub mod GatheringLemmas
 pub mod ShowingLemmas

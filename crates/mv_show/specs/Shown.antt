@@ -15,8 +15,9 @@ use Rattle.mv_hub.specs.Record.{is_open, routed_count}
 use Rattle.mv_repository.specs.declared.held.Held.{Held}
 use Rattle.mv_repository.specs.Pack.{pack_state, is_recalled, is_withdrawn}
 use Rattle.mv_repository.specs.Repository.{counts_of, product_of}
-use Rattle.mv_repository.specs.Stops.{entry_at}
+use Rattle.mv_repository.specs.Bearing.{entry_at}
 use Rattle.mv_machine.specs.State.{State, submissions_of, log_of, wire_of, applied_count}
+use Rattle.mv_format.specs.KeyOrder.{IsOrdered}
 use Rattle.mv_format.specs.Objects.{object_of}
 use Rattle.mv_format.specs.Writing.{change_value, national_value}
 use Rattle.mv_format.specs.Openings.{code_of}
@@ -102,3 +103,11 @@ shown_rows (Some st) =
 -- the text of these lines: the canonical text of each, ended by a line feed
 abbrev pub lines_text : List Row → List ℕ
 lines_text rows = text_lines (map (λ row. compact_text (object_of row)) rows)
+
+-- each line that shows something is an object whose keys ascend
+abbrev pub RowsAreOrdered : Type 0
+RowsAreOrdered = ((st : State) (party : ℕ) → IsOrdered (object_of (party_row st party)))
+    × ((party : ℕ) (log : List LogEntry) (gtin : List ℕ) → IsOrdered (object_of (product_row party log gtin)))
+    × ((party : ℕ) (key : BatchKey) → IsOrdered (object_of (recall_row party key)))
+    × ((party : ℕ) (log : List LogEntry) (key : PackKey) (held : Held) → IsOrdered (object_of (pack_row party log key held)))
+    × ((st : State) (from to : ℕ) → IsOrdered (object_of (link_row st from to)))

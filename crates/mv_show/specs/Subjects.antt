@@ -1,7 +1,7 @@
 -- What the log of a repository names, and in which order.
 use Rattle.std.specs.Prelude.{List, [], ◌∷◌, ◌++◌, map, Bool, true, false, bytes_eq}
 use Rattle.mv_show.specs.Words.{Carried, Item, LogEntry, Master, Pack, Party, Product, Recall as ARecall, Subject, Upload, Withdraw, flat_map, is_same_batch, is_same_pack, pack_key}
-use Rattle.mv_hub.specs.Listing.{distinct}
+use Rattle.indexmap.specs.IndexSet.{insert_all}
 use Rattle.mv_show.specs.declared.subject.Kind.{Kind}
 use Rattle.mv_show.specs.declared.subject.Kind.TheVariants as kinds
 use Rattle.mv_show.specs.declared.subject.Subject.TheVariants.{Recall}
@@ -31,4 +31,4 @@ named_of kind log = flat_map (λ entry. named_in kind entry.item) log
 -- in the order of their first naming, and once.
 abbrev pub subjects_of : List LogEntry → List Subject
 subjects_of log =
-    distinct is_same_subject (Party ∷ named_of kinds.Products log ++ named_of kinds.Recalls log ++ named_of kinds.Packs log)
+    insert_all is_same_subject [] (Party ∷ named_of kinds.Products log ++ named_of kinds.Recalls log ++ named_of kinds.Packs log)

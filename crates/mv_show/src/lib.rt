@@ -17,6 +17,7 @@
 #![tactic(auto)]
 
 mod gathering;
+pub mod laws;
 mod lines;
 mod link_lines;
 mod naming;

@@ -6,7 +6,7 @@ ghost use Rattle.mv_pack.specs.Expiry.{expiry_text};
 ghost use Rattle.mv_machine.specs.State.{is_party};
 ghost use Rattle.mv_repository.specs.Pack.{pack_state};
 ghost use Rattle.mv_repository.specs.Repository.{product_of};
-ghost use Rattle.mv_repository.specs.Stops.{entry_at};
+ghost use Rattle.mv_repository.specs.Bearing.{entry_at};
 ghost use Rattle.mv_show.specs.Shown.{subject_rows, party_row, product_row, recall_row, pack_row, lines_text, user_in};
 
 use crate::lines::Lines;

@@ -5,6 +5,7 @@ ghost use Rattle.mv_machine.specs.State.{opening, is_party, submissions_of, log_
 ghost use Rattle.mv_machine.specs.Steps.{ask};
 ghost use Rattle.mv_machine.specs.Replies.{changes_nothing};
 ghost use Rattle.mv_machine.specs.Runs.{Meets, Allows, Runs};
+ghost use Rattle.mv_machine.specs.Bounded.{KeepsLimits};
 ghost use Rattle.mv_machine.specs.Lawful.{IsLawful, IsWellFormed};
 ghost use Rattle.mv_machine.specs.Headline.{HeadlineHolds};
 ghost use Rattle.mv_system.specs.inside.World.{new_wire};
@@ -104,11 +105,13 @@ impl World {
         self.sites[party as usize].submissions()
     }
 
-    /// The hub's record, the oldest entry first. Whoever looks at it knows that the state is lawful, as every state of a system is.
+    /// The hub's record, the oldest entry first. Whoever looks at it knows that the state is lawful and keeps its limits, as every state of
+    /// a system does.
     pub fn record(&self) -> &[Entry]
         ensures entries { result.now ≡ self.now.hub.entries }
         ensures well_formed { IsWellFormed self.now }
         ensures lawful { IsLawful self.now }
+        ensures within { KeepsLimits self.now }
     {
         self.hub.record()
     }

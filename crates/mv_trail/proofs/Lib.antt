@@ -3,3 +3,4 @@ pub mod StepLemmas
 pub mod ToldLemmas
 pub mod TrailLemmas
 pub mod EventLemmas
+pub mod OrderLemmas

@@ -6,6 +6,8 @@ use Rattle.std.specs.List.{enumerate_from, filter_map}
 use Rattle.mv_hub.specs.declared.entry.Entry.TheVariants as entries
 use Rattle.mv_engine.specs.Replies.{IsReplies, text_lines}
 use Rattle.mv_trail.specs.Events.{Event, submitted, asked, routed, applied, closed, event_of}
+use Rattle.mv_format.specs.KeyOrder.{IsOrdered}
+use Rattle.mv_trail.specs.EventValues.{event_value}
 use Rattle.mv_trail.specs.Trail.{IsEvent, event_text}
 
 -- an event, where there is one, with the number of its line
@@ -62,3 +64,7 @@ LogsAreTold = (party : ℕ) (lines : List Line) (events : List (ℕ × Event)) (
 abbrev pub SubmissionsAreTold : Type 0
 SubmissionsAreTold = (party : ℕ) (lines : List Line) (events : List (ℕ × Event)) (st : State) → AreTold None lines events (Some st)
     → filter_map (λ it. submission_told party it.1) events ≡ enumerate_from 1 (map unless_answer (submissions_of st party))
+
+-- each event is an object whose keys ascend
+abbrev pub EventsAreOrdered : Type 0
+EventsAreOrdered = (line : ℕ) (event : Event) → IsOrdered (event_value line event)

@@ -1,6 +1,6 @@
 //! Laws over the definitions alone: of what the events of a run tell.
 
-ghost use Rattle.mv_trail.specs.Laws.{EventsAreWritten, RecordIsTold, LogsAreTold, SubmissionsAreTold};
+ghost use Rattle.mv_trail.specs.Laws.{EventsAreOrdered, EventsAreWritten, RecordIsTold, LogsAreTold, SubmissionsAreTold};
 
 /// What `trail` writes to the lines of a run are the events of what the lines did, each once and in their order: those of which the other
 /// laws speak.
@@ -26,4 +26,10 @@ pub fn logs_are_told()
 #[tactic(auto, using(crate::proofs::TrailLemmas::submissions_are_told))]
 pub fn submissions_are_told()
     ensures { SubmissionsAreTold }
+{}
+
+/// Each event is an object whose keys ascend in byte order, each once; so do those of the objects in it.
+#[tactic(auto, using(crate::proofs::OrderLemmas::events_are_ordered))]
+pub fn events_are_ordered()
+    ensures { EventsAreOrdered }
 {}

@@ -24,7 +24,7 @@ abbrev pub table_of : List (Vec (Outlet Frame) Global) → WireTable
 table_of rows = record { rings = each_row ring_put rows; put = each_row sent rows; free = each_row known_free rows }
 
 module _ {T : Type 0} where
-  -- something is seen on the ring from a party
+  -- something is known to wait on the ring from a party
   abbrev pub HasFront : Inflow T → ℕ → Type 0
   HasFront inlets from = 0 < length (slice_index_or inlets.known from [])
 

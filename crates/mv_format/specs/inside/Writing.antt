@@ -1,6 +1,6 @@
 -- What is written of a reply's object.
 use Rattle.std.specs.Prelude.{ℕ, List, [], ◌∷◌, Option, Some, None}
-use Rattle.mv_format.specs.Words.{Data, Member, Token, key, member}
+use Rattle.mv_format.specs.Words.{Data, Member, Token, key}
 use Rattle.mv_format.specs.Writing.{entry_of, tokens_of}
 
 -- the tokens of a key and of its value, if there is one

@@ -1,7 +1,7 @@
 -- What the hub keeps beside its record, how that follows from the record, how an entry changes its tables, and what a routing puts on
 -- the links of its sender.
-use Rattle.std.specs.Prelude.{List, [], ◌∷◌, ◌++◌, ◌+◌, ◌==◌, ◌≡◌, ◌↔◌, ◌⊎◌, Contains, Option, Some, None, Bool, false, if◌then◌else◌, ℕ, bytes_eq, length, slice_index, unwrap_or, ◌≢◌, ◌<◌, ◌≤◌, ◌&&◌, map, slice_index_or}
-use Rattle.mv_hub.specs.Words.{BatchKey, IsEquivalence, Message, Product, Upload, and_equiv, is_same_batch, list_any, nat_eq_equiv, nat_list_eq_equiv, on_equiv, option_map_or, option_or, Carried, EndsWithHeld, Entry, HasRoom, IsSquare, Item, PARTIES_LIMIT, Receipt, Sending, cell, has_party, new_sending, no_parties, parties_in}
+use Rattle.std.specs.Prelude.{List, [], ◌∷◌, ◌++◌, ◌+◌, ◌==◌, option_to_list, ◌≡◌, ◌↔◌, ◌⊎◌, Contains, Option, Some, None, Bool, false, if◌then◌else◌, ℕ, bytes_eq, length, slice_index, unwrap_or, ◌≢◌, ◌<◌, ◌≤◌, ◌&&◌, map, slice_index_or}
+use Rattle.mv_hub.specs.Words.{BatchKey, IsEquivalence, Message, Product, Upload, and_equiv, insert_all, is_same_batch, nat_eq_equiv, nat_list_eq_equiv, on_equiv, option_map_or, option_or, Carried, EndsWithHeld, Entry, HasRoom, IsSquare, Item, PARTIES_LIMIT, Receipt, Sending, cell, has_party, new_sending, no_parties, parties_in}
 use Rattle.mv_hub.specs.declared.catalogue.Catalogue.{Catalogue}
 use Rattle.std.specs.Map.{lookup}
 use Rattle.std.specs.declared.alloc.Global.{Global}
@@ -36,15 +36,10 @@ pub record Gathers (old more new : List BatchKey) : Type 0 where
 abbrev pub no_catalogue : Catalogue
 no_catalogue = record { product = None; batches = [] }
 
--- one more listing, where there is one, unless it is there
-abbrev pub with_listing : List Listing → Option Listing → List Listing
-with_listing listings None = listings
-with_listing listings (Some listing) = if list_any (is_same_listing listing) listings then listings else listings ++ listing ∷ []
-
 -- what is known of a product once a message gives it a description or lists a batch of it
 abbrev pub catalogue_after : Catalogue → Option Product → Option Listing → Catalogue
 catalogue_after catalogue product listing =
-    record { product = option_or product catalogue.product; batches = with_listing catalogue.batches listing }
+    record { product = option_or product catalogue.product; batches = insert_all is_same_listing catalogue.batches (option_to_list listing) }
 
 -- the batch and its expiry that a message lists: those of an upload
 abbrev pub listing_of : Message → Option Listing

@@ -1,6 +1,6 @@
 //! What the hub does with its links: it relays, repeats and closes.
 
-ghost use Rattle.std.specs.Prelude.{◌≡◌, ◌+◌, ◌<◌, length, IfOk, OnOk, OnErr};
+ghost use Rattle.std.specs.Prelude.{◌≡◌, ◌+◌, ◌<◌, ◌≤◌, length, IfOk, OnOk, OnErr};
 ghost use Rattle.mv_link.specs.Frames.{IsFrameOf};
 ghost use Rattle.mv_link.specs.Fault.{FailsBy};
 ghost use Rattle.mv_hub.specs.Hub.{are_parties, sent_of, items_on, relay_fault, repeat_fault, close_fault, with_relayed, with_closed};
@@ -32,7 +32,8 @@ impl Hub {
     pub fn relayed(&self, from: Party, to: Party) -> u32
         requires from { from < length self.now.parties }
         requires to { to < length self.now.parties }
-        ensures { result ≡ sent_of self.now from to }
+        ensures value { result ≡ sent_of self.now from to }
+        ensures within { result ≤ length (items_on self.now from to) }
     {
         self.link(from, to).sent()
     }
@@ -90,8 +91,8 @@ impl Hub {
         Ok(self.link(from, to).again(number)?)
     }
 
-    /// Closes the link from one party to another, for ever: no message that is routed later is put on it. What was put on
-    /// it before is still relayed and repeated.
+    /// Closes the link from one party to another, for ever: nothing that is routed later is put on it, neither message nor
+    /// receipt. What was put on it before is still relayed and repeated.
     ///
     /// The first of these that holds is the fault: H4, one of the parties is none; H6, the link was closed before; H7,
     /// memory was refused.

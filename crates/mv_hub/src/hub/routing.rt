@@ -80,8 +80,8 @@ impl Hub {
         None
     }
 
-    /// Routes the next message of a party: it goes into the record, a receipt of it onto the party's link to itself,
-    /// and the message onto the link to each party that it reaches, under its place in the record as stamp. Answers its
+    /// Routes the next message of a party: it goes into the record, a receipt of it onto the party's link to itself, while that is
+    /// open, and the message onto the link to each party that it reaches, under its place in the record as stamp. Answers its
     /// number among the messages of the party, from one, and whom it reaches.
     ///
     /// The first of these that holds is the fault: H4, there is no such party; H5, a link has no room for what it would

@@ -2,15 +2,14 @@
 -- each of its statuses does, the entry by which it stands behind them, and what many of them do that stand one behind the other;
 -- and its history.
 use Rattle.std.specs.Prelude.{◌≡◌, if◌then◌else◌, ◌≤◌, ◌+◌, ◌%◌, ◌∷◌, ◌++◌}
-use Rattle.mv_repository.specs.Words.{ℕ, List, find, Bool, true, Option, Some, bytes_eq, flat_map, lookup, keys_of, option_map, option_map_or, insert_key, Item, LogEntry, Stop, Stops, OfBatch, OfProduct, is_same_batch, [], take, None, option_and_then, BatchKey, Standing, Message, Status, Effect, BatchStanding, unwrap_or, Held, batch_key, ⊤, length, drop, AllByRecursion, PARTIES_LIMIT, PartySet, map, fold, PackKey, Block, IfSome, slice_get}
+use Rattle.mv_repository.specs.Words.{ℕ, List, find, Bool, true, Option, Some, bytes_eq, flat_map, lookup, keys_of, option_map, option_map_or, insert_all, insert_key, Item, LogEntry, Stop, Stops, OfBatch, OfProduct, is_same_batch, [], take, None, option_and_then, BatchKey, Standing, Message, Status, Effect, BatchStanding, unwrap_or, Held, batch_key, ⊤, length, drop, AllByRecursion, PARTIES_LIMIT, PartySet, map, fold, PackKey, Block, IfSome, slice_get}
 use Rattle.mv_repository.specs.Order.{Placed, passes, ordered, stands_before}
 use Rattle.mv_repository.specs.Pack.{is_recall_of, is_withdrawal_of, effect_of, KnownPack, KnownChange, is_active, is_done, change_effect, held_of}
-use Rattle.mv_repository.specs.Repository.{each_once, recalled_in}
-use Rattle.mv_repository.specs.Stops.{FirstStops, entry_at, withdrawn_in, standing_at, message_in, first_stops}
+use Rattle.mv_repository.specs.Repository.{recalled_in}
+use Rattle.mv_repository.specs.Bearing.{FirstStops, entry_at, first_stops, first_upload, message_in, pack_made_by, standing_at, statuses_of, withdrawn_in}
 use Rattle.mv_repository.specs.declared.state.Basis.{Basis}
 use Rattle.mv_link.specs.PartySets.{has_party}
 use Rattle.mv_repository.specs.declared.blocks.Cut.{Cut}
-use Rattle.mv_repository.specs.Track.{first_upload, pack_made_by, statuses_of}
 use Rattle.mv_repository.specs.declared.history.Places.{Places}
 use Rattle.mv_repository.specs.Agreement.{PackHistory}
 use Rattle.mv_message.specs.declared.standing.Standing.TheVariants as standings
@@ -49,7 +48,7 @@ AreFound {K} same is_of pick places = (key : K) → lookup (same key) places ≡
 -- a table of keys has the first of each kind, by stamp, and the keys, each once, in the order in which they arrived
 pub record AreFirstsOf {K : Type 0} (same : K → K → Bool) (is_of : K → Item → Bool) (keys_in : Item → List K) (log : List LogEntry) (places : List (K × ℕ)) : Type 0 where
   pub found : AreFound same is_of (λ test. find test (ordered log)) places
-  pub keys : keys_of places ≡ each_once same (flat_map (λ entry. keys_in entry.item) log)
+  pub keys : keys_of places ≡ insert_all same [] (flat_map (λ entry. keys_in entry.item) log)
 
 -- the tables are those of a log
 pub record AreStopsOf (log : List LogEntry) (tables : Stops) : Type 0 where

@@ -17,7 +17,7 @@ returns c =
       c.laid_out-8.ensures,
       padded_number,
       append_assoc,
-      c.sub.ensures,
+      c.sub.ensures.value,
       c.routed_count-routed.ensures.value,
       c.hub.ensures.value,
       c.counts-entries.ensures,

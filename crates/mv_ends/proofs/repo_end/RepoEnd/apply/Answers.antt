@@ -1,6 +1,6 @@
 -- The party took the frame that is taken from the link, and what it answers is on its uplink.
 use Rattle.mv_ends.proofs.Words.{◌≡◌, ◌∙◌, refl, sym, ap, rules, ◌++◌, option_to_list, Err, sent, Taken, SiteState, reply_to, with_item}
-use Rattle.mv_ends.proofs.SiteEndLemmas.{apply_refused, apply_taken, memory_told, more_submitted, refused_for, accepted_taken}
+use Rattle.mv_ends.proofs.SiteEndLemmas.{apply_refused, apply_taken, memory_told, more_submitted, refused_for, accepted_taken, taken_freely}
 use Rattle.mv_ends.proofs.repo_end.RepoEnd.apply.Goals as goal
 
 pub returns-in_default-clause-reply : goal.returns-in_default-clause-reply
@@ -44,6 +44,7 @@ returns-in-Ok-apply-clause-reply c =
     let all = c.in-Ok.ensures.answer c.in-Ok-apply.ensures.fault ∙ ap (λ (s : SiteState). s.submissions) (sym c.in-Ok-apply.ensures.ok) in
     rw c.of_taken.ensures (apply_taken c.args.from frame.number c.args.self.now _ c.in-Ok-apply.taken record {
       frame = frame;
+      free = taken_freely c.is_full-full.result site c.args.from frame.item _ c.in-Ok-apply.ensures.fault;
       taken = rw (c.take-frame.ensures.takes, c.is_empty.ensures.nothing, c.take-frame.ensures.front frame c.front-frame.ensures);
       site = c.in-Ok-apply.ensures.ok;
       pushed = c.put_answer.ensures.put

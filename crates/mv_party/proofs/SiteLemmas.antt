@@ -1,8 +1,10 @@
 -- What a party keeps with one more submission, and with one more item of its repository.
 use Rattle.mv_party.proofs.Words.{◌≡◌, ℕ, ◌+◌, ◌<◌, ◌≤◌, ◌≢◌, Bool, false, List, [], ◌∷◌, ◌++◌, length, cond, set, get_or, length-set, eqb, Option, Some, None, Ok, refl, arith, length-append, option_to_list, IsLawfulParty, IsSite, Item, LogEntry, Message, SiteState, answer_fault, answer_to, answers_in, ask_fault, count_from, entry_from, is_query_or_answer, site_of, submit_fault, unless_fault}
-use Rattle.std.specs.List.{AllByRecursion}
+use Rattle.std.specs.List.{AllByRecursion, count_by}
 use Rattle.std.proofs.lemmas.Bool.{cases_eq}
+use Rattle.std.proofs.lemmas.Bool.Decides.{nat_tests}
 use Rattle.std.proofs.lemmas.Grind.{elements}
+use Rattle.std.proofs.lemmas.List.Recursion.{is_count_by}
 use Rattle.mv_repository.specs.Repository.{items_from, RepositoryState, with_applied as repository_with}
 use Rattle.mv_party.specs.declared.fault.SiteFault.{SiteFault}
 use Rattle.mv_party.proofs.AnswerLemmas.{answers_in-more, answers_in-applied}
@@ -78,3 +80,11 @@ applied-kept limit submissions messages old new accepted sender item count full 
       limit = k.limit;
       counts = λ party is_party. accepted-push old.log accepted sender item party lt (k.counts sender lt) (k.counts party is_party);
     })
+
+-- the items of a party are as many as the entries that are from it
+pub from_counted : (party : ℕ) (log : List LogEntry) → length (items_from log party) ≡ count_by (λ (entry : LogEntry). eqb entry.sender party) log
+from_counted party = is_count_by (λ log. length (items_from log party)) (λ entry. eqb entry.sender party) refl
+    (λ entry log. by (eqb entry.sender party) entry.item (items_from log party))
+  where
+    by : (own : Bool) (item : Item) (rest : List Item) → length (cond own (item ∷ rest) rest) ≡ cond own (1 + length rest) (length rest)
+    by own item rest = grind (arith, nat_tests)

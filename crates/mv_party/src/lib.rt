@@ -27,5 +27,5 @@ mod taken;
 
 pub use fault::SiteFault;
 pub use limits::SUBMISSIONS_LIMIT;
-pub use site::{Site, is_query_or_answer};
+pub use site::{Site, count_from, is_query_or_answer};
 pub use taken::Taken;

@@ -14,7 +14,7 @@ use crate::{SiteFault, Taken};
 use mv_link::{Frame, Incoming, Item, Look};
 use mv_message::{Message, Party, Shared};
 use mv_pack::PackKey;
-use mv_repository::Repository;
+use mv_repository::{LogEntry, Repository};
 use std::alloc::{AllocError, Global};
 use std::marker::Model;
 
@@ -287,6 +287,14 @@ fn is_query(item: &Item) -> bool
         Item::Carried { message, .. } => matches!(message.get(), Message::Query { .. }),
         Item::Receipt { .. } => false,
     }
+}
+
+/// How many items of a sender are in a log.
+#[tactic(auto, using(crate::proofs::SiteLemmas::from_counted))]
+pub fn count_from(log: &[LogEntry], sender: Party) -> usize
+    ensures { result ≡ count_from log.now sender }
+{
+    log.iter().filter(|entry| entry.sender == sender).count()
 }
 
 /// Whether a message is a query or an answer, which no party submits of its own.

@@ -7,8 +7,8 @@ pub use Rattle.mv_repository.specs.declared.entry.LogEntry.{LogEntry}
 pub use Rattle.mv_show.specs.Shown.{Row, lines_text, link_rows, party_rows, shown_rows, subject_rows}
 pub use Rattle.mv_show.specs.Subjects.{is_same_subject, named_of, subjects_of}
 pub use Rattle.mv_show.specs.declared.subject.Subject.TheVariants.{Pack}
-pub use Rattle.std.proofs.Common.{IfSome, List, None, Option, Some, [], add-one, ap, append-nil, append_assoc, arith, count_by, drop, filter, flat_map, inl, length, map, refl, rules, slice_index_or, sym, take, take_all, ℕ, ◌++◌, ◌+◌, ◌-◌, ◌<◌, ◌==◌, ◌∙◌, ◌∷◌, ◌≡◌, ◌≢◌, ◌≤◌}
+pub use Rattle.std.proofs.Common.{IfSome, List, None, Option, Some, [], add-one, ap, append-nil, append_assoc, arith, drop, flat_map, inl, length, map, refl, rules, slice_index_or, sym, take, take_all, ℕ, ◌++◌, ◌+◌, ◌-◌, ◌<◌, ◌∙◌, ◌∷◌, ◌≡◌, ◌≢◌, ◌≤◌}
 pub use Rattle.std.proofs.KnownBytes.{Appends-nil}
 pub use Rattle.std.proofs.lemmas.Bool.Decides.{nat_tests}
-pub use Rattle.std.proofs.lemmas.List.Sums.{fold-append, length-filter}
+pub use Rattle.std.proofs.lemmas.List.Sums.{fold-append}
 pub use Rattle.std.specs.Io.KnownBytes.{Consumes}

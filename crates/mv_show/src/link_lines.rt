@@ -3,12 +3,13 @@
 ghost use Rattle.std.specs.Prelude.{◌≡◌, ◌++◌, ◌∷◌, [], flat_map, length, IfOk, OnOk, IsTrue};
 ghost use Rattle.std.specs.List.{range_with_len};
 ghost use Rattle.mv_hub.specs.Hub.{are_parties};
-ghost use Rattle.mv_machine.specs.State.{is_party, applied_count, wire_of};
+ghost use Rattle.mv_machine.specs.State.{is_party, wire_of};
 ghost use Rattle.mv_show.specs.Shown.{link_row, link_rows, lines_text};
 
 use crate::lines::Lines;
 use mv_lines::Member;
 use mv_message::Party;
+use mv_party::count_from;
 use mv_system::World;
 use std::alloc::{AllocError, Global};
 
@@ -58,7 +59,7 @@ fn append_shown_link(
     let hub = world.hub();
     let wire = wire_of(lines.alloc, world, from, to)?;
     lines.push(&[
-        Member::Number("applied", applied_count(world, from, to) as u64),
+        Member::Number("applied", count_from(world.log(to), from) as u64),
         Member::Flag("closed", !hub.is_open(from, to)),
         Member::Number("from", u64::from(from)),
         Member::Number("put", u64::from(hub.total(from, to))),
@@ -67,20 +68,6 @@ fn append_shown_link(
         Member::Number("to", u64::from(to)),
         Member::Numbers("wire", wire.as_slice()),
     ])
-}
-
-/// How many items of a sender a repository applied.
-fn applied_count(world: &World, from: Party, to: Party) -> usize
-    requires { IsTrue (is_party world.now to) }
-    ensures { result ≡ applied_count world.now from to }
-{
-    let mut count = 0;
-    for entry in world.log(to) {
-        if entry.sender == from {
-            count += 1;
-        }
-    }
-    count
 }
 
 /// The numbers of the frames under way on a link, the front first.

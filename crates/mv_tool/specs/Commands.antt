@@ -44,8 +44,8 @@ module _ (input rest old new told_old told_new : Option (List ℕ)) where
   Ran tasks.Show = RanAs (λ is_open. Shows is_open input old new × Keeps told_old told_new) (λ fault. Unshown fault input rest old new)
   Ran tasks.Check = RanLines IsChecked true (λ after well. (well ≡ after) × Keeps told_old told_new)
   Ran (tasks.Work turns) =
-      RanAs (λ finished. IfSome input (λ bytes. Worked bytes finished (Appends old new)) × Keeps told_old told_new)
-      (λ fault. WorkFailed fault input rest old new)
+      RanAs (λ finished. IfSome input (λ bytes. Worked turns bytes finished (Appends old new)) × Keeps told_old told_new)
+      (λ fault. WorkFailed turns fault input rest old new)
   Ran (tasks.Explain words) =
       RanAs (λ well. IsTrue well × Keeps input rest × (first_unknown words ≡ None) × Appends old new (lines_of words))
       (λ fault. Keeps input rest × (first_unknown words ≡ None) × WrotePart (lines_of words) old new)

@@ -20,22 +20,22 @@ abbrev pub parts_of : Plan → Parts
 parts_of plan = record { parties = plan.parties; limits = plan.limits; work = plan.work }
 
 -- The output of what some lines plan, and whether the plan was finished: a refusal, that no line has opened a plan, or the report of an
--- outcome of the plan, which says that it is finished exactly where that is complete.
-abbrev pub IsOutput : Planned → List ℕ → Bool → Type 0
-IsOutput (Err text) out finished = (out ≡ text ++ 10 ∷ []) × (finished ≡ false)
-IsOutput (Ok None) out finished = (out ≡ compact_text (refused (code_of NotOpen)) ++ 10 ∷ []) × (finished ≡ false)
-IsOutput (Ok (Some parts)) out finished =
-    (plan : Plan) × (outcome : State) × (parts_of plan ≡ parts) × KeepsPlan plan outcome × (IsTrue finished ↔ IsComplete plan outcome)
+-- outcome of the plan by so many turns, which says that it is finished exactly where that is complete.
+abbrev pub IsOutput : ℕ → Planned → List ℕ → Bool → Type 0
+IsOutput turns (Err text) out finished = (out ≡ text ++ 10 ∷ []) × (finished ≡ false)
+IsOutput turns (Ok None) out finished = (out ≡ compact_text (refused (code_of NotOpen)) ++ 10 ∷ []) × (finished ≡ false)
+IsOutput turns (Ok (Some parts)) out finished =
+    (plan : Plan) × (outcome : State) × (parts_of plan ≡ parts) × KeepsPlan plan turns outcome × (IsTrue finished ↔ IsComplete plan outcome)
     × (out ≡ report_text outcome ++ end_line finished)
 
 -- an input was read whole, the fact holds of its output, and whether its plan was finished
-abbrev pub Worked : List ℕ → Bool → (List ℕ → Type 0) → Type 0
-Worked bytes finished Went = (planned : Planned) × (out : List ℕ) × IsRead bytes planned × IsOutput planned out finished × Went out
+abbrev pub Worked : ℕ → List ℕ → Bool → (List ℕ → Type 0) → Type 0
+Worked turns bytes finished Went = (planned : Planned) × (out : List ℕ) × IsRead bytes planned × IsOutput turns planned out finished × Went out
 
 -- What a run that ended by a fault has written. Where a write failed: the first bytes of an output of the input. Else nothing: the
 -- input was not read, or memory was refused; or, only where the input is a plan, it could not be started.
-abbrev pub Failed : ServeFault → Option (List ℕ) → Option (List ℕ) → Option (List ℕ) → Option (List ℕ) → Type 0
-Failed Write input rest old new = IfSome input (λ bytes. (finished : Bool) × Worked bytes finished (λ out. WrotePart out old new))
-Failed Start input rest old new = Keeps old new × IfSome input (λ bytes. (parts : Parts) × IsRead bytes (Ok (Some parts)))
-Failed Memory input rest old new = Keeps old new
-Failed fault input rest old new = Keeps old new × Unread fault input rest
+abbrev pub Failed : ℕ → ServeFault → Option (List ℕ) → Option (List ℕ) → Option (List ℕ) → Option (List ℕ) → Type 0
+Failed turns Write input rest old new = IfSome input (λ bytes. (finished : Bool) × Worked turns bytes finished (λ out. WrotePart out old new))
+Failed turns Start input rest old new = Keeps old new × IfSome input (λ bytes. (parts : Parts) × IsRead bytes (Ok (Some parts)))
+Failed turns Memory input rest old new = Keeps old new
+Failed turns fault input rest old new = Keeps old new × Unread fault input rest

@@ -44,8 +44,8 @@ pub fn work<H: Threads + Wait + Sync, R: Read, W: Write, G: Gate>(
     gate: &G,
 ) -> Result<bool, ServeFault>
     ensures ok { IfOk result (λ finished. IfSome (R.remaining reader.old) (λ bytes.
-        Worked bytes finished (Appends (W.contents writer.old) (W.contents writer.new)))) }
-    ensures err { IfErr result (λ fault. Failed fault (R.remaining reader.old) (R.remaining reader.new)
+        Worked turns bytes finished (Appends (W.contents writer.old) (W.contents writer.new)))) }
+    ensures err { IfErr result (λ fault. Failed turns fault (R.remaining reader.old) (R.remaining reader.new)
         (W.contents writer.old) (W.contents writer.new)) }
 {
     let planned = read_plan(alloc, reader)?;
@@ -63,7 +63,7 @@ fn carry_out<H: Threads + Wait + Sync, G: Gate>(
     gate: &G,
 ) -> Result<Output, ServeFault>
     ensures ok { IfOk result (λ output.
-        IsOutput (planned_of planned) (string_bytes output.text) output.finished) }
+        IsOutput turns (planned_of planned) (string_bytes output.text) output.finished) }
     ensures err { IfErr result (λ fault. (fault ≡ ServeFault.Memory)
         ⊎ ((fault ≡ ServeFault.Start) × ((parts : Parts) × (planned_of planned ≡ Ok (Some parts))))) }
 {

@@ -1,5 +1,5 @@
 -- What a plan is beside what its run leaves.
-use Rattle.mv_workers.proofs.Words.{AllUnused, AllZip-get_or, AreBegun, Bool, HubSeat, IsBack, IsCarried, IsComplete, IsCrewOf, IsFalse, IsLawful, IsPrefix, IsSound, IsTrue, KeepsPlan, List, RepoEnd, SiteState, State, [], ap, arith, ext_get_or, false, get_or, get_or-map, length, length-map, map, nat_tests, new_site, opening, own_among, own_of, refl, repo_seat, site_of, submissions_of, subst, suc, sym, true, zero, ℕ, ◌&&◌, ◌<◌, ◌↔◌, ◌∙◌, ◌∷◌, ◌≡◌}
+use Rattle.mv_workers.proofs.Words.{AllUnused, AllZip-get_or, AreBegun, Bool, HubSeat, IsBack, IsBegun, IsCarried, IsComplete, IsCrewOf, IsFalse, IsLawful, IsSound, IsTrue, KeepsPlan, List, RepoEnd, SiteState, State, [], ap, arith, ext_get_or, false, get_or, get_or-map, length, length-map, map, nat_tests, new_site, opening, own_among, own_of, refl, repo_seat, site_of, submissions_of, subst, suc, sym, true, zero, ℕ, ◌&&◌, ◌<◌, ◌↔◌, ◌∙◌, ◌∷◌, ◌≡◌}
 use Rattle.mv_machine.specs.Limits.{Bounds}
 use Rattle.mv_machine.proofs.CallerLemmas.{opening-site}
 use Rattle.mv_ends.specs.declared.hub_end.HubEnd.{HubEnd}
@@ -30,7 +30,7 @@ own_at [] party = refl
 own_at (repo ∷ repos) zero = refl
 own_at (repo ∷ repos) (suc party) = own_at repos party
 
-module _ (plan : Plan) (crew : Crew) (back : CrewEnds) (of_plan : IsCrewOf plan crew) (is_back : IsBack crew back) (outcome : State)
+module _ (plan : Plan) (given turns : ℕ) (same : given ≡ turns) (crew : Crew) (back : CrewEnds) (of_plan : IsCrewOf plan crew) (is_back : IsBack crew given back) (outcome : State)
     (is : outcome ≡ state_of back.hub back.repos.items) where
   parties_kept : outcome.hub.parties ≡ plan.parties
   parties_kept = ap (λ (it : State). it.hub.parties) is ∙ ap (λ (seat : HubSeat). seat.parties) is_back.hub_is ∙ of_plan.parties
@@ -42,16 +42,16 @@ module _ (plan : Plan) (crew : Crew) (back : CrewEnds) (of_plan : IsCrewOf plan 
   own_is : (party : ℕ) → get_or (map own_of back.repos.items) party [] ≡ own_among (submissions_of outcome party)
   own_is party = own_at back.repos.items party ∙ ap (λ (it : State). own_among (submissions_of it party)) (sym is)
 
-  begun : AreBegun plan.work back.repos.items back.all
-  begun = subst (λ work. AreBegun work back.repos.items back.all) of_plan.work is_back.begun
+  begun : AreBegun turns plan.work back.repos.items back.all
+  begun = subst (λ n. AreBegun n plan.work back.repos.items back.all) same (subst (λ work. AreBegun given work back.repos.items back.all) of_plan.work is_back.begun)
 
   -- the ends of a crew keep its plan
-  keeps_plan : IsLawful outcome → KeepsPlan plan outcome
+  keeps_plan : IsLawful outcome → KeepsPlan plan turns outcome
   keeps_plan lawful = record {
     lawful = lawful;
     parties = parties_kept;
     limits = ap (λ (it : State). it.limits) is ∙ ap (λ (seat : HubSeat). seat.limits) is_back.hub_is ∙ of_plan.limits;
-    submitted = λ party below. subst (λ own. IsPrefix own (get_or plan.work party [])) (own_is party) (AllZip-get_or IsPrefix (map own_of back.repos.items) plan.work party [] [] begun.0 (subst (λ n. party < n) (sym own_each) below));
+    submitted = λ party below. subst (λ own. IsBegun turns own (get_or plan.work party [])) (own_is party) (AllZip-get_or (IsBegun turns) (map own_of back.repos.items) plan.work party [] [] begun.0 (subst (λ n. party < n) (sym own_each) below));
   }
 
   -- they have a complete outcome where all was submitted, and all that was submitted was carried
@@ -70,9 +70,9 @@ module _ (plan : Plan) (crew : Crew) (back : CrewEnds) (of_plan : IsCrewOf plan 
   module _ (sound : IsSound plan) (lawful : IsLawful outcome) (carried : Bool)
       (means : IsTrue carried ↔ ((party : ℕ) → party < length outcome.hub.parties → IsCarried outcome party)) where
     -- what is judged to be complete is what a run promises
-    pub judged_ok : IsTrue (back.all && carried) → IsSound plan × KeepsPlan plan outcome × IsComplete plan outcome
+    pub judged_ok : IsTrue (back.all && carried) → IsSound plan × KeepsPlan plan turns outcome × IsComplete plan outcome
     judged_ok told = (sound, keeps_plan lawful, (complete_by sound carried means).0 told)
 
     -- and what is not leaves one of the faults
-    pub judged_err : IsFalse (back.all && carried) → IsSound plan × KeepsPlan plan outcome × (IsComplete plan outcome → ⊥)
+    pub judged_err : IsFalse (back.all && carried) → IsSound plan × KeepsPlan plan turns outcome × (IsComplete plan outcome → ⊥)
     judged_err told = grind (arith, nat_tests, complete_by, keeps_plan)

@@ -12,16 +12,16 @@ pub use Rattle.mv_message.specs.declared.message.Message.TheVariants.{Answer, Qu
 pub use Rattle.mv_party.specs.Site.{SiteState, answers_in, new_site}
 pub use Rattle.mv_repository.specs.Repository.{items_from}
 pub use Rattle.mv_repository.specs.declared.entry.LogEntry.{LogEntry}
-pub use Rattle.mv_workers.specs.Plans.{IsCarried, IsComplete, IsSound, KeepsPlan}
+pub use Rattle.mv_workers.specs.Plans.{IsBegun, IsCarried, IsComplete, IsSound, KeepsPlan}
 pub use Rattle.mv_workers.specs.Work.{is_answer, lists_of, own_among}
-pub use Rattle.mv_workers.specs.inside.Crews.{AreBegun, Handle, IsBack, IsCrewOf, end_of, work_of}
-pub use Rattle.mv_workers.specs.inside.Desks.{AllUnused, IsFurther, own_of}
-pub use Rattle.std.proofs.Common.{Bool, IsFalse, IsTrue, List, [], ap, append-nil, arith, cond, eqb, false, get_or, inl, inr, length, length-append, ltb-true, map, not, option_to_list, refl, rules, subst, suc, sym, true, vec_len, zero, ℕ, ◌&&◌, ◌++◌, ◌+◌, ◌<◌, ◌==◌, ◌↔◌, ◌∙◌, ◌∷◌, ◌≡◌, ◌≤◌}
+pub use Rattle.mv_workers.specs.inside.Crews.{AreBegun, Handle, HasTurns, IsBack, IsCrewOf, end_of, work_of}
+pub use Rattle.mv_workers.specs.inside.Desks.{AllUnused, IsFurther, IsUnused, own_of}
+pub use Rattle.std.proofs.Common.{Bool, IsFalse, IsTrue, List, [], ap, append-nil, arith, false, get_or, inl, inr, length, length-append, ltb-true, map, not, option_to_list, refl, rules, subst, suc, sym, true, vec_len, zero, ℕ, ◌&&◌, ◌++◌, ◌+◌, ◌<◌, ◌==◌, ◌↔◌, ◌∙◌, ◌∷◌, ◌≡◌, ◌≤◌}
 pub use Rattle.std.proofs.lemmas.Bool.{cases_lt}
 pub use Rattle.std.proofs.lemmas.Bool.Decides.{nat_tests}
 pub use Rattle.std.proofs.lemmas.List.{ext_get_or, get_or-map, length-map, map-append, nil_from_length, same_from_push}
 pub use Rattle.std.proofs.lemmas.List.Elements.{AllZip-get_or, filter-append}
-pub use Rattle.std.specs.List.{count_by, list_any}
+pub use Rattle.std.specs.List.{All, list_any}
 pub use Rattle.std.specs.Vec.{vec_capacity}
 pub use Rattle.std.specs.Vec.Iter.{into_iter_items, into_iter_len}
 pub use mathlib.Core.List.{IsPrefix}

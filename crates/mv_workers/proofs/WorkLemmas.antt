@@ -1,5 +1,5 @@
 -- What a party submits of its own, and of which list that is a front.
-use Rattle.mv_workers.proofs.Words.{Answer, Bool, IsPrefix, IsTrue, List, Message, [], answers_in, ap, append-nil, arith, false, filter-append, get_or, get_or-map, is_answer, length, length-append, length-map, list_any, lists_of, nat_tests, nil_from_length, not, own_among, sym, ℕ, ◌++◌, ◌<◌, ◌==◌, ◌↔◌, ◌∙◌, ◌∷◌, ◌≡◌}
+use Rattle.mv_workers.proofs.Words.{Answer, Bool, IsBegun, IsTrue, List, Message, [], answers_in, ap, append-nil, arith, false, filter-append, get_or, get_or-map, is_answer, length, length-append, length-map, list_any, lists_of, nat_tests, nil_from_length, not, own_among, sym, ℕ, ◌++◌, ◌<◌, ◌≤◌, ◌==◌, ◌↔◌, ◌∙◌, ◌∷◌, ◌≡◌}
 use Rattle.std.specs.declared.alloc.Global.{Global}
 use Rattle.std.specs.declared.vec.Vec.{Vec}
 
@@ -26,5 +26,6 @@ pub list_found : (lists : List (Vec Message Global)) (place : ℕ) (list : Vec M
 list_found lists place list below is = get_or-map items_of lists place list [] below ∙ ap items_of (sym is)
 
 -- what was submitted and what is left are the list: so it is begun, and all of it was submitted where nothing is left
-pub begun_of : (own left list : List Message) (all : Bool) → own ++ left ≡ list → all ≡ (length left == 0) → IsPrefix own list × (IsTrue all ↔ (own ≡ list))
-begun_of own left list all whole over = ((left, whole), grind (arith, length-append own left, append-nil, nil_from_length))
+pub begun_of : (turns : ℕ) (own left list : List Message) (all : Bool) → own ++ left ≡ list → length own ≤ turns → all ≡ (length left == 0)
+    → IsBegun turns own list × (IsTrue all ↔ (own ≡ list))
+begun_of turns own left list all whole few over = (record { front = (left, whole); few = few }, grind (arith, length-append own left, append-nil, nil_from_length))

@@ -1,8 +1,9 @@
 -- What a run leaves, by its plan, and what is carried out of what a party is to submit.
-use Rattle.std.specs.Prelude.{◌≡◌, ◌<◌, ℕ, [], length, slice_index_or}
+use Rattle.std.specs.Prelude.{◌≡◌, ◌<◌, ◌≤◌, ℕ, List, [], length, slice_index_or}
 use mathlib.Core.List.{IsPrefix}
 use Rattle.mv_hub.specs.Record.{routed_from}
 use Rattle.mv_hub.specs.Hub.{items_on}
+use Rattle.mv_message.specs.declared.message.Message.{Message}
 use Rattle.mv_repository.specs.Repository.{items_from}
 use Rattle.mv_party.specs.Site.{answers_in}
 use Rattle.mv_machine.specs.State.{State, submissions_of, log_of}
@@ -22,14 +23,19 @@ pub record IsSound (plan : Plan) : Type 0 where
   pub each : length plan.work ≡ length plan.parties
   pub no_answers : (party : ℕ) → party < length plan.work → answers_in (slice_index_or plan.work party []) ≡ []
 
--- An outcome is one of a plan: it is lawful and has the plan's parties and limits, and what each party submitted of its own is where
--- its list begins.
-pub record KeepsPlan (plan : Plan) (outcome : State) : Type 0 where
+-- What a party submitted of its own is where its list begins, and no more than it had turns: in each it tries one message.
+pub record IsBegun (turns : ℕ) (own list : List Message) : Type 0 where
+  pub front : IsPrefix own list
+  pub few : length own ≤ turns
+
+-- An outcome is one of a plan and of so many turns: it is lawful and has the plan's parties and limits, and the list of each party is
+-- begun.
+pub record KeepsPlan (plan : Plan) (turns : ℕ) (outcome : State) : Type 0 where
   pub lawful : IsLawful outcome
   pub parties : outcome.hub.parties ≡ plan.parties
   pub limits : outcome.limits ≡ plan.limits
   pub submitted : (party : ℕ) → party < length outcome.hub.parties
-      → IsPrefix (own_among (submissions_of outcome party)) (slice_index_or plan.work party [])
+      → IsBegun turns (own_among (submissions_of outcome party)) (slice_index_or plan.work party [])
 
 -- An outcome is complete: each party submitted just its list and answers, all that was submitted was routed, and all that was routed
 -- was applied.
@@ -38,8 +44,8 @@ IsComplete plan outcome = (party : ℕ) → party < length outcome.hub.parties
     → (own_among (submissions_of outcome party) ≡ slice_index_or plan.work party []) × IsCarried outcome party
 
 -- why a run has no complete outcome
-abbrev pub Faults : Plan → WorkFault → Type 0
-Faults plan (fault.Unfinished outcome) = IsSound plan × KeepsPlan plan outcome × (IsComplete plan outcome → ⊥)
-Faults plan (fault.Memory outcome) = IsSound plan × KeepsPlan plan outcome × (IsComplete plan outcome → ⊥)
-Faults plan fault.Start = IsSound plan
-Faults plan fault.Plan = IsSound plan → ⊥
+abbrev pub Faults : Plan → ℕ → WorkFault → Type 0
+Faults plan turns (fault.Unfinished outcome) = IsSound plan × KeepsPlan plan turns outcome × (IsComplete plan outcome → ⊥)
+Faults plan turns (fault.Memory outcome) = IsSound plan × KeepsPlan plan turns outcome × (IsComplete plan outcome → ⊥)
+Faults plan turns fault.Start = IsSound plan
+Faults plan turns fault.Plan = IsSound plan → ⊥

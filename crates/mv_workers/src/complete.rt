@@ -12,15 +12,7 @@ ghost use Rattle.mv_workers.specs.Plans.{IsCarried};
 
 use mv_ends::Outcome;
 use mv_message::Party;
-use mv_repository::LogEntry;
-
-/// How many entries of a log came from a party.
-#[tactic(auto, using(crate::proofs::DoneLemmas::from_counted))]
-fn entries_from(log: &[LogEntry], party: Party) -> usize
-    ensures { result ≡ length (items_from log.now party) }
-{
-    log.iter().filter(|entry| entry.sender == party).count()
-}
+use mv_party::count_from;
 
 /// Whether a repository applied all that was routed to it.
 fn has_applied(outcome: &Outcome, party: Party) -> bool
@@ -33,7 +25,7 @@ fn has_applied(outcome: &Outcome, party: Party) -> bool
     let log = outcome.log(party);
     let hub = outcome.hub();
     for from in 0..outcome.parties().len() {
-        if entries_from(log, from) != hub.total(from, party) as usize {
+        if count_from(log, from) != hub.total(from, party) as usize {
             return false;
         }
     }

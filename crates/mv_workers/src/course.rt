@@ -7,6 +7,8 @@
 //! Each worker writes its own counts alone, and only one that rests looks at those of all. Counts only grow: where their sum is what
 //! it was, no worker has moved between.
 
+ghost use Rattle.std.specs.Prelude.{◌≡◌, ◌≤◌, IfOk};
+
 use std::alloc::{AllocError, Global};
 use std::sync::atomic::{AtomicU64, Ordering};
 use std::sync::{Condvar, Mutex, Wait};
@@ -31,7 +33,7 @@ pub(crate) struct Course {
     /// How many parties there are.
     pub parties: u32,
     /// How many turns each worker takes at most.
-    turns: u32,
+    pub turns: u32,
     /// Whether all workers have started, once that is known.
     started: Mutex<Option<bool>>,
     /// Wakes the workers that wait to know it.
@@ -43,7 +45,9 @@ pub(crate) struct Course {
 impl Course {
     /// The course of a run with a worker for the hub and one for each of so many parties, none of which took a turn yet. Refused for
     /// want of memory.
-    pub(crate) fn new(alloc: Global, parties: u32, turns: u32) -> Result<Course, AllocError> {
+    pub(crate) fn new(alloc: Global, parties: u32, turns: u32) -> Result<Course, AllocError>
+        ensures { IfOk result (λ course. course.turns ≡ turns) }
+    {
         let mut notes = Vec::new(alloc);
         for _ in 0..parties.saturating_add(1) {
             notes.push(Notes {
@@ -68,7 +72,9 @@ impl Course {
     }
 
     /// How many turns a worker takes at most, once it is told whether all have started: none where they have not.
-    pub(crate) fn turns(&self, rt: &impl Wait) -> u32 {
+    pub(crate) fn turns_once_told(&self, rt: &impl Wait) -> u32
+        ensures { result ≤ self.now.turns }
+    {
         let started = self
             .told
             .wait_while(rt, self.started.lock(rt), |all| matches!(*all, None));

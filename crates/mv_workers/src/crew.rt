@@ -1,6 +1,6 @@
 //! Starts a worker for each end, and takes the ends back.
 
-ghost use Rattle.std.specs.Prelude.{◌≡◌, ◌≤◌, [], map, vec_len, vec_capacity, IfOk, IfSome};
+ghost use Rattle.std.specs.Prelude.{◌≡◌, ◌≤◌, [], All, map, vec_len, vec_capacity, IfOk, IfSome};
 ghost use Rattle.mv_ends.specs.HubEnd.{SameHubEnd};
 ghost use Rattle.mv_ends.specs.Laws.{AreSameRepos};
 ghost use Rattle.mv_workers.specs.inside.Desks.{AllUnused, IsFurther};
@@ -18,12 +18,12 @@ use std::snapshot::Snapshot;
 use std::sync::Wait;
 use std::thread::{Promise, PromisedHandle, Scope, Threads};
 
-/// What a repository's worker gives back is that desk, behind its turns, and whether it ended for want of memory.
+/// What a repository's worker gives back is that desk, behind so many turns at most, and whether it ended for want of memory.
 #[derive(Drop)]
-pub(crate) struct DeskPromise(Snapshot<Desk>);
+pub(crate) struct DeskPromise(Snapshot<Desk>, u32);
 
 impl Promise<(Desk, bool)> for DeskPromise {
-    ghost kept_by = { λ p r. IsFurther p.0.value r.0 };
+    ghost kept_by = { λ p r. IsFurther p.1 p.0.value r.0 };
 }
 
 /// The handle of a repository's worker.
@@ -88,7 +88,7 @@ pub(crate) struct CrewEnds {
 impl Crew {
     ghost use Rattle.mv_workers.specs.Work.{lists_of};
     ghost use Rattle.mv_workers.specs.Plans.{IsSound};
-    ghost use Rattle.mv_workers.specs.inside.Crews.{AreBegun, IsCrewOf, IsBack, end_of, work_of};
+    ghost use Rattle.mv_workers.specs.inside.Crews.{AreBegun, HasTurns, IsCrewOf, IsBack, end_of, work_of};
 
     /// Gets all that a run by a plan needs. Refused for want of memory.
     #[tactic(auto, using(crate::proofs::PlanLemmas::ends_each, crate::proofs::PlanLemmas::fresh_parties))]
@@ -116,12 +116,12 @@ impl Crew {
         scope: &Scope<'s, E>,
         shift: &Shift<'s, R, G>,
     ) -> Option<CrewEnds>
-        ensures { IfSome result (λ back. IsBack self back) }
+        ensures { IfSome result (λ back. IsBack self shift.now.course.now.turns back) }
     {
         let started = Crew::start(scope, shift, self.ends, self.lists, self.handles);
         shift.course.tell(shift.rt, started.is_some());
         let (hub, handles) = started?;
-        Some(Crew::join(shift.rt, hub, handles, self.repos))
+        Some(Crew::join(shift, hub, handles, self.repos))
     }
 
     /// Starts all workers, the hub's first, and puts the handles of the others into a list that has room for them. None where one
@@ -139,6 +139,7 @@ impl Crew {
         ensures hub { IfSome result (λ it. it.0.promise.0.value ≡ ends.0) }
         ensures ends { IfSome result (λ it. map end_of it.1.items ≡ ends.1.items) }
         ensures work { IfSome result (λ it. map work_of it.1.items ≡ lists_of lists.items) }
+        ensures turns { IfSome result (λ it. All (HasTurns shift.now.course.now.turns) it.1.items) }
     {
         let (hub, repos) = ends;
         let (mut handles, mut lists) = (into, lists.into_iter());
@@ -154,21 +155,22 @@ impl Crew {
     }
 
     /// Joins all workers, the repositories' in order: their ends come back into a list that has room for them.
-    fn join<R: Threads>(
-        rt: &R,
+    fn join<R: Threads, G>(
+        shift: &Shift<'_, R, G>,
         hub: HubHandle,
         handles: Vec<RepoHandle>,
         into: Vec<RepoEnd>,
     ) -> CrewEnds
-        requires { (into.items ≡ []) × (vec_len handles ≤ vec_capacity into) }
+        requires room { (into.items ≡ []) × (vec_len handles ≤ vec_capacity into) }
+        requires turns { All (HasTurns shift.now.course.now.turns) handles.items }
         ensures hub { SameHubEnd hub.promise.0.value result.hub }
         ensures repos { AreSameRepos (map end_of handles.items) result.repos.items }
-        ensures begun { AreBegun (map work_of handles.items) result.repos.items result.all }
+        ensures begun { AreBegun shift.now.course.now.turns (map work_of handles.items) result.repos.items result.all }
     {
-        let (hub, mut short) = hub.join(rt);
+        let (hub, mut short) = hub.join(shift.rt);
         let (mut repos, mut all) = (into, true);
         for handle in handles {
-            let (desk, is_short) = handle.join(rt);
+            let (desk, is_short) = handle.join(shift.rt);
             let (end, is_over) = desk.into_end();
             repos.push_reserved(end);
             all &= is_over;
@@ -205,12 +207,13 @@ fn start_repo<'s, E, R: Wait + Sync, G: Gate>(
     shift: &Shift<'s, R, G>,
     desk: Desk,
 ) -> Option<RepoHandle>
-    ensures { IfSome result (λ handle. handle.promise.0.value ≡ desk) }
+    ensures desk { IfSome result (λ handle. handle.promise.0.value ≡ desk) }
+    ensures turns { IfSome result (λ handle. handle.promise.1 ≡ shift.now.course.now.turns) }
 {
-    let promise = DeskPromise(Snapshot::of(&desk));
+    let promise = DeskPromise(Snapshot::of(&desk), shift.course.turns);
     let (rt, gate, course) = (shift.rt, shift.gate, shift.course);
     let worker = move || -> (Desk, bool)
-        ensures { IsFurther desk result.0 }
+        ensures { IsFurther course.entry.now.turns desk result.0 }
     { repo_turns(rt, gate, course, desk) };
     scope.spawn_with(promise, worker).ok()
 }

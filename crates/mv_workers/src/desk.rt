@@ -26,7 +26,7 @@ impl Desk {
     /// An end where nothing was submitted, and these messages.
     pub(crate) fn new(end: RepoEnd, list: Vec<Parcel<Shared<Message>>>) -> Desk
         requires { IsUnused end }
-        ensures end { result.end ≡ end }
+        ensures end { (result.end ≡ end) × IsUnused result.end }
         ensures work { work_at result ≡ list.items }
     {
         let list = VecDeque::from(list);
@@ -41,7 +41,7 @@ impl Desk {
     /// A turn: the next message is tried once, and then it is looked once for a frame from each party, each time behind the gate.
     #[tactic(auto, using(crate::proofs::TurnLemmas::own_applied))]
     pub(crate) fn turn<G: Gate>(&mut self, parties: u32, gate: &G) -> Result<bool, AllocError>
-        ensures { IsFurther self.old self.new }
+        ensures { IsFurther 1 self.old self.new }
     {
         repo_end_stays();
         let party = self.end.party();
@@ -55,7 +55,7 @@ impl Desk {
 
     /// Tries the next message once: a query is asked. It is left where it was refused.
     fn submit_next(&mut self) -> Result<bool, AllocError>
-        ensures { IsFurther self.old self.new }
+        ensures { IsFurther 1 self.old self.new }
     {
         repo_end_stays();
         let Some(message) = self.list.pop_front() else {

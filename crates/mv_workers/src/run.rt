@@ -39,8 +39,8 @@ pub fn run_workers<R: Threads + Wait + Sync, G: Gate>(
     gate: &G,
 ) -> Result<Outcome, WorkFault>
     ensures complete { IfOk result (λ outcome. IsSound plan
-        × KeepsPlan plan outcome × IsComplete plan outcome) }
-    ensures fault { IfErr result (λ fault. Faults plan fault) }
+        × KeepsPlan plan turns outcome × IsComplete plan outcome) }
+    ensures fault { IfErr result (λ fault. Faults plan turns fault) }
 {
     if !is_sound(&plan) {
         return Err(WorkFault::Plan);
@@ -56,7 +56,7 @@ pub fn run_workers<R: Threads + Wait + Sync, G: Gate>(
         thread::scope_env(),
         rt,
         |scope| -> Option<CrewEnds>
-            ensures { IfSome result (λ back. IsBack crew back) }
+            ensures { IfSome result (λ back. IsBack crew shared.entry.now.turns back) }
         {
             let shift = Shift {
                 rt,

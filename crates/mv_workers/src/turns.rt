@@ -29,11 +29,11 @@ pub(crate) fn repo_turns<R: Wait, G: Gate>(
     course: &Course,
     mut desk: Desk,
 ) -> (Desk, bool)
-    ensures { IsFurther desk result.0 }
+    ensures { IsFurther course.now.turns desk result.0 }
 {
     repo_end_stays();
     let mut pace = Pace::new(desk.party());
-    for _turn in 0..course.turns(rt) {
+    for _turn in 0..course.turns_once_told(rt) {
         let moved = desk.turn(course.parties, gate);
         if !pace.goes_on(rt, course, moved) {
             break;
@@ -75,7 +75,7 @@ pub(crate) fn hub_turns<R: Wait>(rt: &R, course: &Course, mut hub: HubEnd) -> (H
     hub_end_stays();
     let mut waiting = Waiting::new();
     let mut pace = Pace::new(course.parties);
-    for _turn in 0..course.turns(rt) {
+    for _turn in 0..course.turns_once_told(rt) {
         let moved = hub_turn(&mut hub, &mut waiting, course.parties);
         if !pace.goes_on(rt, course, moved) {
             break;

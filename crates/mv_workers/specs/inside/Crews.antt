@@ -1,7 +1,6 @@
 -- What the ends of a run are before and behind the turns of their workers.
-use Rattle.std.specs.Prelude.{◌≡◌, ◌↔◌, Bool, IsTrue, List, map}
+use Rattle.std.specs.Prelude.{◌≡◌, ◌↔◌, ℕ, Bool, IsTrue, List, map}
 use Rattle.std.specs.List.{AllZip}
-use mathlib.Core.List.{IsPrefix}
 use Rattle.std.specs.declared.thread.PromisedHandle.{PromisedHandle}
 use Rattle.mv_message.specs.declared.message.Message.{Message}
 use Rattle.mv_ends.specs.declared.repo_end.RepoEnd.{RepoEnd}
@@ -13,8 +12,9 @@ use Rattle.mv_workers.specs.declared.crew.CrewEnds.{CrewEnds}
 use Rattle.mv_workers.specs.declared.crew.DeskPromise.{DeskPromise}
 use Rattle.mv_workers.specs.declared.desk.Desk.{Desk}
 use Rattle.mv_workers.specs.declared.plan.Plan.{Plan}
+use Rattle.mv_workers.specs.Plans.{IsBegun}
 use Rattle.mv_workers.specs.Work.{lists_of}
-use Rattle.mv_workers.specs.inside.Desks.{own_of, work_at}
+use Rattle.mv_workers.specs.inside.Desks.{IsUnused, own_of, work_at}
 
 -- the handle of a repository's worker
 abbrev pub Handle : Type 0
@@ -35,12 +35,17 @@ pub record IsCrewOf (plan : Plan) (crew : Crew) : Type 0 where
   pub limits : crew.ends.0.limits ≡ plan.limits
   pub work : lists_of crew.lists.items ≡ plan.work
 
--- what each end submitted of its own is where its party's list begins, and it is told whether that is all of each list
-abbrev pub AreBegun : List (List Message) → List RepoEnd → Bool → Type 0
-AreBegun work repos all = AllZip IsPrefix (map own_of repos) work × (IsTrue all ↔ (map own_of repos ≡ work))
+-- The worker of a handle has so many turns, and nothing was submitted at its end.
+pub record HasTurns (turns : ℕ) (handle : Handle) : Type 0 where
+  pub turns_are : handle.promise.1 ≡ turns
+  pub unused : IsUnused (end_of handle)
 
--- the ends are those of a crew, behind the turns of its workers
-pub record IsBack (crew : Crew) (back : CrewEnds) : Type 0 where
+-- the list of each party is begun at its end, by so many turns, and it is told whether all of each list was submitted
+abbrev pub AreBegun : ℕ → List (List Message) → List RepoEnd → Bool → Type 0
+AreBegun turns work repos all = AllZip (IsBegun turns) (map own_of repos) work × (IsTrue all ↔ (map own_of repos ≡ work))
+
+-- the ends are those of a crew, behind so many turns of its workers
+pub record IsBack (crew : Crew) (turns : ℕ) (back : CrewEnds) : Type 0 where
   pub hub_is : SameHubEnd crew.ends.0 back.hub
   pub repos : AreSameRepos crew.ends.1.items back.repos.items
-  pub begun : AreBegun (lists_of crew.lists.items) back.repos.items back.all
+  pub begun : AreBegun turns (lists_of crew.lists.items) back.repos.items back.all

@@ -1,5 +1,5 @@
 -- What a repository's worker has, and what its turns leave of it.
-use Rattle.std.specs.Prelude.{◌≡◌, ◌++◌, ℕ, ◌<◌, List, [], length, slice_index_or}
+use Rattle.std.specs.Prelude.{◌≡◌, ◌++◌, ◌+◌, ℕ, ◌<◌, ◌≤◌, List, [], length, slice_index_or}
 use Rattle.mv_message.specs.declared.message.Message.{Message}
 use Rattle.mv_ends.specs.declared.repo_end.RepoEnd.{RepoEnd}
 use Rattle.mv_ends.specs.RepoEnd.{SameRepoEnd}
@@ -22,6 +22,7 @@ AllUnused repos = (party : ℕ) (absent : RepoEnd) → party < length repos → 
 abbrev pub work_at : Desk → List Message
 work_at desk = own_of desk.end ++ desk.list.items
 
--- the same desk, some calls later
-abbrev pub IsFurther : Desk → Desk → Type 0
-IsFurther old new = SameRepoEnd old.end new.end × (work_at new ≡ work_at old)
+-- the same desk, so many turns later at most: in each one message is tried
+abbrev pub IsFurther : ℕ → Desk → Desk → Type 0
+IsFurther turns old new =
+    SameRepoEnd old.end new.end × (work_at new ≡ work_at old) × (length (own_of new.end) ≤ length (own_of old.end) + turns)

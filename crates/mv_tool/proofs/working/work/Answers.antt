@@ -13,4 +13,4 @@ returns-in_err-put_out-clause-err g c = grind (arith, err_from_is_err_and, worke
 -- the output went out
 pub returns-clause-ok : goal.returns-clause-ok
 returns-clause-ok g c =
-    worked_whole _ _ _ _ _ _ c.in_ok-output.output.finished c.in_ok-planned.ensures.ok c.in_ok-output.ensures.ok c.as_bytes.ensures.value c.in_ok-put_out.ensures.ok
+    worked_whole _ _ _ _ _ _ _ c.in_ok-output.output.finished c.in_ok-planned.ensures.ok c.in_ok-output.ensures.ok c.as_bytes.ensures.value c.in_ok-put_out.ensures.ok

@@ -297,7 +297,7 @@ pub fn count_from(log: &[LogEntry], sender: Party) -> usize
     log.iter().filter(|entry| entry.sender == sender).count()
 }
 
-/// Whether a message is a query or an answer, which no party submits of its own.
+/// Whether a message is a query or an answer, which [`Site::submit`] does not take.
 pub fn is_query_or_answer(message: &Message) -> bool
     ensures value { result ≡ is_query_or_answer message.now }
     ensures other { result ≡ false → answers_in (message.now ∷ []) ≡ [] }

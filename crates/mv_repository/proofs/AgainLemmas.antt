@@ -1,5 +1,5 @@
 -- Tracks that are worked out again, also without need.
-use Rattle.mv_repository.proofs.Words.{◌≡◌, ◌+◌, arith, nat_tests, bytes_eq, Bool, None, Option, Some, [], ap, false, get_or, length, map, refl, subst, sym, take, true, true≢false, ℕ, ◌∙◌, List, lookup, IfSome, option_and_then, option_map, made_batch, pack_key, LogEntry, Slot, Made, Own, Placed, Stops, stops_in, ordered, IsAgain, IsPackOf, IsRefreshed, IsShelfOf, ShelfTable, is_listed, kept_by, no_shelf, nothing_kept, AreStopsOf, no_entry, place_of, IsKept, Kept, Life, first_upload, statuses_of, life_of}
+use Rattle.mv_repository.proofs.Words.{◌≡◌, ◌+◌, arith, nat_tests, bytes_eq, Bool, None, Option, Some, [], ap, false, get_or, length, map, refl, subst, sym, take, true, true≢false, ℕ, ◌∙◌, List, lookup, IfSome, option_and_then, option_map, made_batch, pack_key, LogEntry, Slot, Made, Own, Placed, Stops, stops_in, ordered, IsAgain, IsPackOf, IsRefreshed, AreShelfOf, IsShelfOf, ShelfTable, shelf_by, is_listed, kept_by, no_shelf, nothing_kept, AreStopsOf, no_entry, place_of, IsKept, Kept, Life, first_upload, statuses_of, life_of}
 use Rattle.mv_repository.proofs.TableLemmas.{NoPack, filter-none, find-none, log-split}
 use Rattle.mv_repository.proofs.SerialLemmas.{serials-at}
 use Rattle.mv_repository.proofs.TrackLemmas.{track-is}
@@ -24,7 +24,7 @@ module _ (whole : List LogEntry) (place : ℕ) (tables : Stops) (gtin : List ℕ
       (a.statuses ∙ ap (λ (k : Kept). k.statuses) e.bare ∙ sym (ap (map place_of) (own-stay serial))) a.worked
 
   -- what has no status stands by its upload
-  none-again : (birth : Option ℕ) → IsAgain whole (stops_in whole tables) gtin birth (kept_by [] (option_map Made birth)) (kept_by [] (option_map Made birth))
+  none-again : (birth : Option ℕ) → IsAgain whole (stops_in whole tables) gtin birth (kept_by [] (option_map (Made 0) birth)) (kept_by [] (option_map (Made 0) birth))
   none-again None = record { birth = refl; statuses = refl; worked = record { by = refl; blocks = tt } }
   none-again (Some first) = record { birth = refl; statuses = refl; worked = record { by = refl; blocks = tt } }
 
@@ -44,7 +44,7 @@ module _ (whole : List LogEntry) (place : ℕ) (tables : Stops) (gtin : List ℕ
         where
           by : (slot : Option Slot) → lookup (bytes_eq serial) shelf.slots ≡ slot → IsOf log serial (kept_by shelf.tracks slot) → IsOf whole serial (kept_by tracks slot)
           by None e kept = is_worked serial nothing_kept nothing_kept kept (none-again None)
-          by (Some (Made first)) e kept = is_worked serial (kept_by [] (Some (Made first))) (kept_by [] (Some (Made first))) kept (none-again (Some first))
+          by (Some (Made index first)) e kept = is_worked serial (kept_by [] (Some (Made 0 first))) (kept_by [] (Some (Made 0 first))) kept (none-again (Some first))
           by (Some (Own n)) e kept = track (looked n) refl (again n)
             where
               track : (b : Bool) → looked n ≡ b → IsRefreshed whole (stops_in whole tables) gtin b (get_or shelf.tracks n nothing_kept) (get_or tracks n nothing_kept) → IsOf whole serial (get_or tracks n nothing_kept)
@@ -52,5 +52,8 @@ module _ (whole : List LogEntry) (place : ℕ) (tables : Stops) (gtin : List ℕ
               track false h r = subst (IsOf whole serial) (sym r) (subst (λ (life : Life). IsKept life (get_or shelf.tracks n nothing_kept)) (sym (away serial n e h)) kept)
 
   -- a product with no shelf has no pack
-  pub shelf-empty : IsShelfOf log gtin no_shelf → IsShelfOf whole gtin no_shelf
-  shelf-empty = shelf-again (λ number. true) no_shelf [] (λ number. none-again None) (λ serial number e h. absurd (true≢false h))
+  pub shelf-empty : AreShelfOf log gtin no_shelf → AreShelfOf whole gtin no_shelf
+  shelf-empty of = record {
+    slots = record { hashes = refl; named = tt; distinct = of.slots.distinct };
+    shelf = shelf-again (λ number. true) (shelf_by log no_shelf) [] (λ number. none-again None) (λ serial number e h. absurd (true≢false h)) of.shelf;
+  }

@@ -1,12 +1,28 @@
 -- How many packs of a table are counted.
-use Rattle.mv_repository.proofs.Words.{AllByRecursion, AreTablesOf, Bool, Counted, IsDistinct, IsDistinct-cons, IsDistinct-head, IsDistinct-keys_filter, IsDistinct-tail, IsEquivalence, Kept, List, LogEntry, None, Option, PackKey, ShelfTable, Slot, Some, Tables, [], ap, arith, bare, bytes_eq, common_steps, cond, distinct_count, distinct_count-le, false, filter, flat_map, is_counted, is_member, is_member-filter, is_same_pack, is_some, is_some-lookup, kept_by, kept_in, keys_of, length, length-from_keys, list_any-append, lookup, lookup-filter-values, map, min, nat_list_eq_equiv, nat_tests, no_shelf, not, option_filter, or-false, pack_key, refl, rules, same_text, shelf_of, slots_counted, sym, track_of, true, unwrap_or, uploaded_packs, ℕ, ◌&&◌, ◌++◌, ◌-◌, ◌<◌, ◌^◌, ◌||◌, ◌∙◌, ◌∷◌, ◌≡◌}
+use Rattle.mv_repository.proofs.Words.{AllByRecursion, AreTablesOf, keyed, length-append, length-keys_of, length-map, shelf_by, subst, true≢false, ◌+◌, Bool, Counted, IsDistinct, IsDistinct-cons, IsDistinct-head, IsDistinct-keys_filter, IsDistinct-tail, IsEquivalence, Kept, List, LogEntry, None, Option, PackKey, ShelfParts, ShelfTable, Slot, Some, Tables, [], ap, arith, bare, bytes_eq, common_steps, cond, distinct_count, distinct_count-le, false, filter, flat_map, is_counted, is_member, is_member-filter, is_same_pack, is_some, is_some-lookup, kept_by, kept_in, keys_of, length, length-from_keys, list_any-append, lookup, lookup-filter-values, map, min, nat_list_eq_equiv, nat_tests, no_shelf, not, option_filter, or-false, pack_key, refl, rules, same_text, shelf_of, slots_counted, sym, track_of, true, unwrap_or, uploaded_packs, ℕ, ◌&&◌, ◌++◌, ◌-◌, ◌<◌, ◌^◌, ◌||◌, ◌∙◌, ◌∷◌, ◌≡◌}
 use Rattle.std.proofs.lemmas.List.Filters.{length-filter_both}
-use Rattle.mv_repository.proofs.KeptLemmas.{same_pack, pack-self, pack-sym}
+use Rattle.mv_repository.proofs.KeptLemmas.{same_pack, pack-self, pack-sym, text-self}
 use Rattle.mv_repository.proofs.UploadedLemmas.{uploaded-found}
 
+-- the slots of the packs on a shelf that are counted, each under its serial number
+abbrev keyed_counted : Counted → ShelfTable → List (List ℕ × Slot)
+keyed_counted counted shelf = filter (λ slot. is_counted counted (kept_by shelf.tracks (Some slot.1))) shelf.slots
+
 -- the packs that are counted, shelf by shelf
-abbrev pub packs_counted : Counted → List (List ℕ × ShelfTable) → List PackKey
-packs_counted counted shelves = flat_map (λ shelf. map (pack_key shelf.0) (keys_of (slots_counted counted shelf.1))) shelves
+abbrev packs_counted : Counted → List (List ℕ × ShelfTable) → List PackKey
+packs_counted counted shelves = flat_map (λ shelf. map (pack_key shelf.0) (keys_of (keyed_counted counted shelf.1))) shelves
+
+-- how many these are, by what is kept on the shelves
+abbrev pub slots_in : Counted → List (List ℕ × ShelfParts) → ℕ
+slots_in counted [] = 0
+slots_in counted (shelf ∷ rest) = length (slots_counted counted shelf.1) + slots_in counted rest
+
+-- the shelves as a log means them, and that of a product
+abbrev tables_by : List LogEntry → List (List ℕ × ShelfParts) → List (List ℕ × ShelfTable)
+tables_by log shelves = map (λ shelf. (shelf.0, shelf_by log shelf.1)) shelves
+
+abbrev table_of : List ℕ → List (List ℕ × ShelfTable) → ShelfTable
+table_of gtin shelves = unwrap_or (lookup (bytes_eq gtin) shelves) (shelf_by [] no_shelf)
 
 pack-equiv : IsEquivalence is_same_pack
 pack-equiv = search (rules, pack-sym)
@@ -53,11 +69,11 @@ in-product gtin [] q = grind (arith, nat_tests)
 in-product gtin (s ∷ rest) q = grind (arith, nat_tests, in-product gtin rest q)
 
 -- no serial number stands twice on a shelf
-abbrev pub IsKeyed : ShelfTable → Type 0
+abbrev IsKeyed : ShelfTable → Type 0
 IsKeyed shelf = IsDistinct bytes_eq (keys_of shelf.slots)
 
 module _ (counted : Counted) where
-  on-shelf : (shelf : ShelfTable) → IsKeyed shelf → (serial : List ℕ) → is_member bytes_eq (keys_of (slots_counted counted shelf)) serial ≡ is_counted counted (kept_in shelf serial)
+  on-shelf : (shelf : ShelfTable) → IsKeyed shelf → (serial : List ℕ) → is_member bytes_eq (keys_of (keyed_counted counted shelf)) serial ≡ is_counted counted (kept_in shelf serial)
   on-shelf shelf keyed serial =
       sym (is_some-lookup (bytes_eq serial) (filter (λ slot. test slot.1) shelf.slots))
       ∙ ap is_some (lookup-filter-values nat_list_eq_equiv test serial shelf.slots keyed) ∙ by (lookup (bytes_eq serial) shelf.slots)
@@ -70,20 +86,20 @@ module _ (counted : Counted) where
 
   -- a pack on no shelf is not counted
   off-shelves : (gtin serial : List ℕ) (shelves : List (List ℕ × ShelfTable)) → AllByRecursion (λ y. bytes_eq gtin y ≡ false) (keys_of shelves)
-      → is_counted counted (kept_in (shelf_of gtin shelves) serial) ≡ false
+      → is_counted counted (kept_in (table_of gtin shelves) serial) ≡ false
   off-shelves gtin serial shelves h = grind (arith, nat_tests, absent)
 
   in-shelves : (shelves : List (List ℕ × ShelfTable)) → IsDistinct bytes_eq (keys_of shelves) → AllByRecursion (λ shelf. IsKeyed shelf.1) shelves → (q : PackKey)
-      → is_member is_same_pack (packs_counted counted shelves) q ≡ is_counted counted (kept_in (shelf_of q.gtin shelves) q.serial)
+      → is_member is_same_pack (packs_counted counted shelves) q ≡ is_counted counted (kept_in (table_of q.gtin shelves) q.serial)
   in-shelves [] d keyed q = grind (arith, nat_tests)
   in-shelves (s ∷ rest) d keyed q =
-      list_any-append (is_same_pack q) (map (pack_key s.0) (keys_of (slots_counted counted s.1))) (packs_counted counted rest)
-      ∙ (λ i. in-product s.0 (keys_of (slots_counted counted s.1)) q i || in-shelves rest (IsDistinct-tail bytes_eq s.0 (keys_of rest) d) keyed.1 q i)
+      list_any-append (is_same_pack q) (map (pack_key s.0) (keys_of (keyed_counted counted s.1))) (packs_counted counted rest)
+      ∙ (λ i. in-product s.0 (keys_of (keyed_counted counted s.1)) q i || in-shelves rest (IsDistinct-tail bytes_eq s.0 (keys_of rest) d) keyed.1 q i)
       ∙ by (bytes_eq q.gtin s.0) refl
     where
       by : (b : Bool) → bytes_eq q.gtin s.0 ≡ b
-          → ((b && is_member bytes_eq (keys_of (slots_counted counted s.1)) q.serial) || is_counted counted (kept_in (shelf_of q.gtin rest) q.serial))
-          ≡ is_counted counted (kept_in (unwrap_or (cond b (Some s.1) (lookup (bytes_eq q.gtin) rest)) no_shelf) q.serial)
+          → ((b && is_member bytes_eq (keys_of (keyed_counted counted s.1)) q.serial) || is_counted counted (kept_in (table_of q.gtin rest) q.serial))
+          ≡ is_counted counted (kept_in (unwrap_or (cond b (Some s.1) (lookup (bytes_eq q.gtin) rest)) (shelf_by [] no_shelf)) q.serial)
       by false e = refl
       by true e = search (rules, same_text q.gtin s.0 (sym e), on-shelf, off-shelves, or-false, IsDistinct-head)
 
@@ -91,23 +107,74 @@ module _ (counted : Counted) where
   unfolding IsDistinct
   in-distinct [] d keyed = tt
   in-distinct (s ∷ rest) d keyed =
-      distinct-append (map (pack_key s.0) (keys_of (slots_counted counted s.1))) (packs_counted counted rest)
-      (distinct-product s.0 (keys_of (slots_counted counted s.1)) (IsDistinct-keys_filter bytes_eq (λ slot. is_counted counted (kept_by s.1.tracks (Some slot.1))) s.1.slots keyed.0))
-      (in-distinct rest (IsDistinct-tail bytes_eq s.0 (keys_of rest) d) keyed.1) (elsewhere (keys_of (slots_counted counted s.1)))
+      distinct-append (map (pack_key s.0) (keys_of (keyed_counted counted s.1))) (packs_counted counted rest)
+      (distinct-product s.0 (keys_of (keyed_counted counted s.1)) (IsDistinct-keys_filter bytes_eq (λ slot. is_counted counted (kept_by s.1.tracks (Some slot.1))) s.1.slots keyed.0))
+      (in-distinct rest (IsDistinct-tail bytes_eq s.0 (keys_of rest) d) keyed.1) (elsewhere (keys_of (keyed_counted counted s.1)))
     where
       elsewhere : (serials : List (List ℕ)) → AllByRecursion (λ x. is_member is_same_pack (packs_counted counted rest) x ≡ false) (map (pack_key s.0) serials)
       elsewhere [] = tt
       elsewhere (one ∷ serials) = grind (arith, nat_tests, elsewhere serials, IsDistinct-tail, in-shelves, off-shelves)
 
+  -- as many slots are counted as packs
+  counted-slots : (log : List LogEntry) (parts : ShelfParts) (slots : List Slot)
+      → length (filter (λ slot. is_counted counted (kept_by parts.tracks (Some slot.1))) (keyed log parts.names slots)) ≡ length (filter (λ slot. is_counted counted (kept_by parts.tracks (Some slot))) slots)
+  counted-slots log parts [] = refl
+  counted-slots log parts (slot ∷ slots) = grind (arith, nat_tests, counted-slots log parts slots)
+
+  counted-in : (log : List LogEntry) (shelves : List (List ℕ × ShelfParts)) → length (packs_counted counted (tables_by log shelves)) ≡ slots_in counted shelves
+  counted-in log [] = refl
+  counted-in log (s ∷ rest) =
+      length-append (map (pack_key s.0) (keys_of (keyed_counted counted (shelf_by log s.1)))) (packs_counted counted (tables_by log rest))
+      ∙ (λ i. (length-map (keys_of (keyed_counted counted (shelf_by log s.1))) (pack_key s.0) ∙ length-keys_of (keyed_counted counted (shelf_by log s.1)) ∙ counted-slots log s.1 s.1.slots.slots) i + counted-in log rest i)
+
+  module _ (log : List LogEntry) where
+    keys-by : (shelves : List (List ℕ × ShelfParts)) → keys_of (tables_by log shelves) ≡ keys_of shelves
+    keys-by [] = refl
+    keys-by (s ∷ rest) = ap (λ keys. s.0 ∷ keys) (keys-by rest)
+
+    found-by : (gtin : List ℕ) (shelves : List (List ℕ × ShelfParts)) → table_of gtin (tables_by log shelves) ≡ shelf_by log (shelf_of gtin shelves)
+    found-by gtin [] = refl
+    found-by gtin (s ∷ rest) = by (bytes_eq gtin s.0) (found-by gtin rest)
+      where
+        by : (b : Bool) → table_of gtin (tables_by log rest) ≡ shelf_by log (shelf_of gtin rest) → unwrap_or (cond b (Some (shelf_by log s.1)) (lookup (bytes_eq gtin) (tables_by log rest))) (shelf_by [] no_shelf) ≡ shelf_by log (unwrap_or (cond b (Some s.1) (lookup (bytes_eq gtin) rest)) no_shelf)
+        by true e = refl
+        by false e = e
+
+    all-keyed : (shelves : List (List ℕ × ShelfParts)) → IsDistinct bytes_eq (keys_of shelves)
+        → ((gtin : List ℕ) (parts : ShelfParts) → lookup (bytes_eq gtin) shelves ≡ Some parts → IsKeyed (shelf_by log parts)) → AllByRecursion (λ shelf. IsKeyed shelf.1) (tables_by log shelves)
+    all-keyed [] d h = tt
+    all-keyed (s ∷ rest) d h = (
+      h s.0 s.1 (ap (λ b. cond b (Some s.1) (lookup (bytes_eq s.0) rest)) (text-self s.0)),
+      all-keyed rest (IsDistinct-tail bytes_eq s.0 (keys_of rest) d) (λ gtin parts e. h gtin parts (by gtin parts e (bytes_eq gtin s.0) refl)),
+    )
+      where
+        by : (gtin : List ℕ) (parts : ShelfParts) → lookup (bytes_eq gtin) rest ≡ Some parts → (b : Bool) → bytes_eq gtin s.0 ≡ b → cond b (Some s.1) (lookup (bytes_eq gtin) rest) ≡ Some parts
+        by gtin parts e false n = e
+        by gtin parts e true n =
+            let none : lookup (bytes_eq gtin) rest ≡ None = subst (λ (one : List ℕ). lookup (bytes_eq one) rest ≡ None) (sym (same_text gtin s.0 (sym n))) (absent s.0 rest (IsDistinct-head bytes_eq s.0 (keys_of rest) d)) in
+            absurd (true≢false (ap is_some (sym e ∙ none)))
+
   -- the packs that are counted shelf by shelf are those that a log has
-  all-counted : (log : List LogEntry) (tables : Tables) → AreTablesOf log tables → IsDistinct bytes_eq (keys_of tables.shelves.entries) → AllByRecursion (λ shelf. IsKeyed shelf.1) tables.shelves.entries
-      → length (packs_counted counted tables.shelves.entries) ≡ distinct_count is_same_pack (filter (λ pack. is_counted counted (track_of pack log)) (uploaded_packs log))
-  all-counted log tables are d keyed =
-      length-from_keys pack-equiv (packs_counted counted tables.shelves.entries) (filter test (uploaded_packs log)) (in-distinct tables.shelves.entries d keyed)
-      (λ q. in-shelves tables.shelves.entries d keyed q ∙ counted-bare counted (kept_in (shelf_of q.gtin tables.shelves.entries) q.serial)
-      ∙ ap (is_counted counted) ((are.shelves q.gtin).packs q.serial).kept.bare
+  all-counted : (log : List LogEntry) (tables : Tables) → AreTablesOf log tables → IsDistinct bytes_eq (keys_of tables.shelves.entries)
+      → slots_in counted tables.shelves.entries ≡ distinct_count is_same_pack (filter (λ pack. is_counted counted (track_of pack log)) (uploaded_packs log))
+  all-counted log tables are d =
+      sym (counted-in log tables.shelves.entries)
+      ∙ length-from_keys pack-equiv (packs_counted counted shelves) (filter test (uploaded_packs log)) (in-distinct shelves apart keyed)
+      (λ q. in-shelves shelves apart keyed q ∙ counted-bare counted (kept_in (table_of q.gtin shelves) q.serial)
+      ∙ ap (λ (shelf : ShelfTable). is_counted counted (bare (kept_in shelf q.serial))) (found-by log q.gtin tables.shelves.entries)
+      ∙ ap (is_counted counted) ((are.shelves q.gtin).shelf.packs q.serial).kept.bare
       ∙ sym (is_member-filter pack-equiv test q (λ y e. ap test (same_pack q y e)) (uploaded_packs log) ∙ ap (λ b. b && test q) (sym (uploaded-found log q)) ∙ there q (test q) refl))
     where
+      shelves : List (List ℕ × ShelfTable)
+      shelves = tables_by log tables.shelves.entries
+
+      apart : IsDistinct bytes_eq (keys_of shelves)
+      apart = subst (IsDistinct bytes_eq) (sym (keys-by log tables.shelves.entries)) d
+
+      keyed : AllByRecursion (λ shelf. IsKeyed shelf.1) shelves
+      keyed = all-keyed log tables.shelves.entries d (λ gtin parts e.
+          subst (λ (one : ShelfParts). IsKeyed (shelf_by log one)) (ap (λ (o : Option ShelfParts). unwrap_or o no_shelf) e) (are.shelves gtin).slots.distinct)
+
       test : PackKey → Bool
       test pack = is_counted counted (track_of pack log)
 
@@ -115,10 +182,10 @@ module _ (counted : Counted) where
       there q b e = grind (arith, nat_tests)
 
   -- and no more than 64 bits hold
-  pub counted-whole : (log : List LogEntry) (tables : Tables) (count : ℕ) → AreTablesOf log tables → IsDistinct bytes_eq (keys_of tables.shelves.entries) → AllByRecursion (λ shelf. IsKeyed shelf.1) tables.shelves.entries
-      → tables.named < 2 ^ 64 → count ≡ min (length (packs_counted counted tables.shelves.entries)) (2 ^ 64 - 1)
+  pub counted-whole : (log : List LogEntry) (tables : Tables) (count : ℕ) → AreTablesOf log tables → IsDistinct bytes_eq (keys_of tables.shelves.entries)
+      → tables.named < 2 ^ 64 → count ≡ min (slots_in counted tables.shelves.entries) (2 ^ 64 - 1)
       → count ≡ distinct_count is_same_pack (filter (λ pack. is_counted counted (track_of pack log)) (uploaded_packs log))
-  counted-whole log tables count are d keyed fits e = grind (arith, nat_tests, all-counted, distinct_count-le, length-filter_both (λ pack. is_counted counted (track_of pack log)) (λ pack. not (is_counted counted (track_of pack log))) (λ pack. refl) (uploaded_packs log))
+  counted-whole log tables count are d fits e = grind (arith, nat_tests, all-counted, distinct_count-le, length-filter_both (λ pack. is_counted counted (track_of pack log)) (λ pack. not (is_counted counted (track_of pack log))) (λ pack. refl) (uploaded_packs log))
 
 -- the packs that are held are those that the log names
 pub held-all : (log : List LogEntry) → distinct_count is_same_pack (filter (λ pack. is_some (track_of pack log).birth) (uploaded_packs log)) ≡ distinct_count is_same_pack (uploaded_packs log)

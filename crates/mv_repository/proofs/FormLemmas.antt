@@ -1,8 +1,8 @@
 -- What the tables are after one more entry, by its form.
-use Rattle.mv_repository.proofs.Words.{◌≡◌, ◌+◌, ℕ, List, length, get_or, take, sym, ◌∙◌, true, Option, None, Some, Result, OnOk, OnErr, [], ap, Item, Message, Master, Upload, Status, Recall, Withdraw, Product, Standing, CivilDate, pack_key, BatchKey, PackKey, LogEntry, uploaded_in, uploaded_packs, is_master, AreMastersOf, ordered, IsShelfOf, ShelfTable, shelf_of, Stops, first_stops, no_entry, message_in, AreStopsOf, AreTablesOf, life_of, Tables, arith, nat_tests}
+use Rattle.mv_repository.proofs.Words.{◌≡◌, ◌+◌, ℕ, List, length, get_or, take, sym, ◌∙◌, true, Option, None, Some, Result, OnOk, OnErr, [], ap, Item, Message, Master, Upload, Status, Recall, Withdraw, Product, Standing, CivilDate, pack_key, BatchKey, PackKey, LogEntry, uploaded_in, uploaded_packs, is_master, AreMastersOf, ordered, AreShelfOf, ShelfParts, shelf_of, Stops, first_stops, no_entry, message_in, AreStopsOf, AreTablesOf, life_of, Tables, arith, nat_tests}
 use Rattle.mv_repository.proofs.PacksLemmas.{none-named}
 use Rattle.mv_repository.proofs.ProductLemmas.{masters-noted}
-use Rattle.mv_repository.proofs.SerialLemmas.{serials-at, shelf-stays}
+use Rattle.mv_repository.proofs.SerialLemmas.{serials-at, shelf-kept}
 use Rattle.mv_repository.proofs.StopLemmas.{NoMaster}
 use Rattle.mv_repository.proofs.TableLemmas.{NoPack, StopsNone, at-newest, first-same, log-split, stops-stay}
 use Rattle.mv_repository.proofs.UploadLemmas.{life-same}
@@ -51,10 +51,10 @@ module _ (whole : List LogEntry) (place : ℕ) (l : length whole ≡ place + 1) 
   same-at none = at-newest whole place l (λ w n. first_stops (ordered w) ≡ first_stops (ordered log)) (first-same log entry none)
 
   -- what is kept of packs, where the entry names none and the first stops are as they were
-  pub shelves-at : (shelves : List (List ℕ × ShelfTable)) → NoPack entry.item → first_stops (ordered whole) ≡ first_stops (ordered log)
-      → ((gtin : List ℕ) → IsShelfOf log gtin (shelf_of gtin shelves)) → (gtin : List ℕ) → IsShelfOf whole gtin (shelf_of gtin shelves)
+  pub shelves-at : (shelves : List (List ℕ × ShelfParts)) → NoPack entry.item → first_stops (ordered whole) ≡ first_stops (ordered log)
+      → ((gtin : List ℕ) → AreShelfOf log gtin (shelf_of gtin shelves)) → (gtin : List ℕ) → AreShelfOf whole gtin (shelf_of gtin shelves)
   shelves-at shelves none same are gtin =
-      shelf-stays whole log gtin (shelf_of gtin shelves) (
+      shelf-kept whole place gtin (shelf_of gtin shelves) (
         λ serial.
             let pack = pack_key gtin serial in
             ap (life_of pack) (log-split whole place l)

@@ -14,6 +14,8 @@ pub mod UploadLemmas
 pub mod ActiveLemmas
 pub mod AgainLemmas
 pub mod UploadedLemmas
+pub mod SlotLemmas
+pub mod PutLemmas
 pub mod ShelvesLemmas
 pub mod CountedLemmas
 pub mod PacksLemmas

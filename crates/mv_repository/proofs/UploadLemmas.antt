@@ -1,5 +1,5 @@
 -- An upload in what is kept of one pack.
-use Rattle.mv_repository.proofs.Words.{AreStopsOf, Bool, IfSome, IsKept, IsPackOf, IsShelfOf, IsTrack, IsUploadOf, Item, Kept, Life, List, LogEntry, Option, PackKey, Placed, ShelfTable, Some, Stops, [], ap, arith, batch_at, bytes_eq, comes_first, common_steps, cond, earlier_place, false, first_stops, first_upload, get_or, insert_key, is_listed, is_master, is_status_of, is_upload_of, kept_in, keys_of, length, life_of, list_any, list_any_more, lookup, made_batch, map, nat_tests, no_entry, option_and_then, option_map, or-false, or-true, ordered, pack_key, place_of, refl, same_text, statuses_of, stops_in, subst, sym, take, track_of, true, ℕ, ◌&&◌, ◌+◌, ◌<◌, ◌||◌, ◌∙◌, ◌∷◌, ◌≡◌}
+use Rattle.mv_repository.proofs.Words.{AreStopsOf, Bool, IfSome, IsKept, IsPackOf, IsShelfOf, IsTrack, IsUploadOf, Item, Kept, Life, List, LogEntry, Option, PackKey, Placed, ShelfTable, Some, Stops, [], ap, arith, batch_at, bytes_eq, comes_first, common_steps, cond, earlier_place, false, first_stops, first_upload, get_or, insert_key, is_listed, is_master, is_status_of, is_upload_of, kept_in, keys_of, length, life_of, list_any, list_any_more, lookup, made_batch, map, nat_tests, no_entry, option_and_then, option_map, or-false, or-true, ordered, pack_key, place_of, refl, same_text, serials_uploaded, statuses_of, stops_in, subst, sym, take, track_of, true, ℕ, ◌&&◌, ◌+◌, ◌<◌, ◌||◌, ◌∙◌, ◌∷◌, ◌≡◌}
 use Rattle.mv_repository.proofs.KeptLemmas.{life_batch, text-self}
 use Rattle.mv_repository.proofs.OrderLemmas.{ordered-stand, still-stand}
 use Rattle.mv_repository.proofs.StateLemmas.{find-stand}
@@ -16,6 +16,9 @@ upload-form item gtin serials u = grind (arith, nat_tests)
 
 pub upload-has : (item : Item) (gtin : List ℕ) (serials : List (List ℕ)) → IsUploadOf item gtin serials → (serial : List ℕ) → is_upload_of (pack_key gtin serial) item ≡ has serials serial
 upload-has item gtin serials u serial = grind (arith, nat_tests, text-self)
+
+pub upload-names : (item : Item) (gtin : List ℕ) (serials : List (List ℕ)) → IsUploadOf item gtin serials → serials_uploaded item ≡ serials
+upload-names item gtin serials u = grind (arith, nat_tests)
 
 -- a serial number is among those it is taken from
 pub has-own : (xs : List (List ℕ)) (i : ℕ) → i < length xs → has xs (get_or xs i []) ≡ true

@@ -21,8 +21,8 @@ pub use Rattle.mv_repository.specs.declared.repository.Counts.{Counts}
 pub use Rattle.mv_repository.specs.declared.effect.Effect.{Effect}
 pub use Rattle.mv_repository.specs.declared.entry.LogEntry.{LogEntry, LogEntry as AnEntry}
 pub use Rattle.mv_repository.specs.declared.held.Held.{Held}
-pub use Rattle.mv_repository.specs.declared.shelf.Slot.TheVariants.{Made, Own}
-pub use Rattle.mv_repository.specs.declared.shelf.Slot.{Slot}
+pub use Rattle.mv_repository.specs.declared.slots.Slot.TheVariants.{Made, Own}
+pub use Rattle.mv_repository.specs.declared.slots.Slot.{Slot}
 pub use Rattle.mv_repository.specs.declared.stops.BatchStanding.{BatchStanding}
 pub use Rattle.mv_repository.specs.declared.stops.Stop.TheVariants.{OfBatch, OfProduct}
 pub use Rattle.mv_repository.specs.declared.stops.Stop.{Stop}

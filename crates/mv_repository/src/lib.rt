@@ -28,6 +28,7 @@ mod laws;
 mod listing;
 mod repository;
 mod shelf;
+mod slots;
 mod state;
 mod stops;
 mod tables;
@@ -43,4 +44,5 @@ pub use laws::{
     same_entries_agree, same_histories_agree, same_messages_agree,
 };
 pub use repository::{Counts, Repository};
+pub use slots::ProductSerials;
 pub use verdict::{Joint, Local, Verdict};

@@ -10,10 +10,10 @@ use crate::shelf::Counted;
 use crate::state::held_at;
 use crate::tables::Tables;
 use crate::verdict::{found_active, found_explained, verdict_when};
-use crate::{Effect, FromSender, Held, History, Joint, Local, LogEntry};
+use crate::{Effect, FromSender, Held, History, Joint, Local, LogEntry, ProductSerials};
 use mv_link::Item;
 use mv_message::{Found, Message, Party, Product, Shared};
-use mv_pack::{BatchKey, Gtin, PackKey, Serial};
+use mv_pack::{BatchKey, Gtin, PackKey};
 use std::alloc::{AllocError, Global};
 use std::marker::Model;
 
@@ -124,7 +124,7 @@ impl Repository {
         ensures { record { birth = result.0; statuses = result.1.now; by = result.2; blocks = [] } ≡ track_of key.now self.now.log }
     {
         match self.tables.shelves.get(&key.gtin) {
-            Some(shelf) => shelf.parts(&key.serial),
+            Some(shelf) => shelf.parts(self.log.as_slice(), &key.serial),
             None => (None, &[], 0),
         }
     }
@@ -159,12 +159,12 @@ impl Repository {
 
     /// The serial numbers of a product that uploads and statuses name, each once, in the order in which each came first.
     /// One that only statuses name is no pack yet: `pack` gives none.
-    pub fn serials(&self, gtin: &Gtin) -> &[Serial]
-        ensures { result.now ≡ serials_of self.now.log gtin.now }
+    pub fn serials(&self, gtin: &Gtin) -> ProductSerials<'_>
+        ensures { result ≡ serials_of self.now.log gtin.now }
     {
         match self.tables.shelves.get(gtin) {
-            Some(shelf) => shelf.serials(),
-            None => &[],
+            Some(shelf) => shelf.serials(self.log.as_slice()),
+            None => ProductSerials::none(),
         }
     }
 

@@ -1,28 +1,18 @@
 //! What is kept of each pack of one product, by serial numbers alone. This file knows no other product.
 
 ghost use Rattle.std.specs.Prelude.{◌≡◌, ◌<◌, ◌≤◌, ◌+◌, ◌==◌};
-ghost use Rattle.mv_repository.specs.Clauses.{AreStopsOf, IfOk, IsAgain, IsDistinct, IsRefreshed, IsShelfOf, IsTrack, IsUploadOf, List, OnErr, OnOk, Some, [], bare, batch_at, bytes_eq, comes_first, earlier_place, newest_effect, entry_at, false, get_or, insert_key, is_status_of, is_stop, kept_by, kept_in, keys_of, length, is_listed_in, may_stop, no_shelf, nothing_kept, slots_counted, stopped_product, stops_in, take, true, ℕ};
+ghost use Rattle.mv_repository.specs.Clauses.{AreShelfOf, AreSlots, AreStopsOf, IfOk, IsPut, IsRefreshed, IsTrack, IsUploadOf, OnErr, OnOk, Some, [], bare, comes_first, newest_effect, entry_at, get_or, is_status_of, is_stop, kept_by, kept_in, keys_of, length, may_stop, no_shelf, nothing_kept, serials_uploaded, shelf_by, slice_get, slots_counted, stopped_product, stops_in, take, true, ℕ};
 
-use crate::Effect;
 use crate::entry::passes;
 use crate::listing::Listing;
+use crate::slots::{Names, Slot, Slots};
 use crate::state::Newest;
 use crate::stops::Stop;
 use crate::track::Track;
-use indexmap::IndexMap;
-use indexmap::map::Entry;
+use crate::{Effect, LogEntry, ProductSerials};
 use mv_pack::{Gtin, PackKey, Serial};
 use std::alloc::{AllocError, Global};
 use std::marker::Model;
-
-/// What stands for a pack: the place of its first upload, or the number of its track.
-#[derive(Clone, Copy)]
-pub(crate) enum Slot {
-    /// The pack has no status; the place in the log of the first upload that names it.
-    Made(u32),
-    /// The number of its track.
-    Own(u32),
-}
 
 /// Which packs are counted.
 #[derive(Clone, Copy)]
@@ -62,37 +52,54 @@ fn refresh_stopped(tracks: &mut Vec<Track>, listing: &Listing, newest: &Newest<'
     }
 }
 
+/// The most serial numbers that an upload names: where one stands among them takes 16 bits.
+const MOST_SERIALS: usize = 1 << 16;
+
 /// What is kept of the packs of a product.
 #[derive(Drop)]
 pub(crate) struct Shelf {
     /// What stands for each serial number that an upload or a status names.
-    slots: IndexMap<Serial, Slot>,
-    /// The tracks of those that have a status.
+    slots: Slots,
+    /// The serial numbers of the packs that have a status, by the numbers of their tracks.
+    names: Vec<Serial>,
+    /// The tracks of these.
     tracks: Vec<Track>,
     /// The numbers of the tracks by batch.
     listing: Listing,
 }
 
 impl Model for Shelf {
-    ghost use Rattle.mv_repository.specs.inside.Shelf.{ShelfTable, IsShelf};
-    ghost use Rattle.indexmap.specs.IndexMap.{spare};
+    ghost use Rattle.std.specs.Prelude.{◌≡◌, length};
+    ghost use Rattle.mv_repository.specs.inside.Shelf.{ShelfParts};
 
-    ghost Value = { ShelfTable };
+    ghost Value = { ShelfParts };
 
-    ghost view = { λ a. record { slots = a.slots.entries; tracks = a.tracks.items; listing = a.listing; room = spare a.slots } };
+    ghost view = { λ a. record { slots = a.slots; names = a.names.items; tracks = a.tracks.items; listing = a.listing } };
 
-    ghost invariant = { λ a. IsShelf a.slots.entries a.tracks.items };
+    ghost invariant = { λ a. length a.names.items ≡ length a.tracks.items };
 }
 
 impl Shelf {
     /// No pack.
     pub fn new(alloc: Global) -> Shelf
-        ensures { result ≡ record no_shelf { room = result.room } }
+        ensures { result ≡ no_shelf }
     {
         Shelf {
-            slots: IndexMap::new(alloc),
+            slots: Slots::new(alloc),
+            names: Vec::new(alloc),
             tracks: Vec::new(alloc),
             listing: Listing::new(alloc),
+        }
+    }
+
+    /// Where the serial numbers of the slots stand.
+    fn names<'a>(&'a self, log: &'a [LogEntry]) -> Names<'a>
+        ensures log { result.log.now ≡ log.now }
+        ensures own { result.own.now ≡ self.now.names }
+    {
+        Names {
+            log,
+            own: self.names.as_slice(),
         }
     }
 
@@ -102,7 +109,7 @@ impl Shelf {
         ensures { record { birth = result.0; statuses = result.1.now; by = result.2; blocks = [] } ≡ bare (kept_by self.now.tracks slot) }
     {
         match slot {
-            Some(Slot::Made(first)) => (Some(first), &[], first),
+            Some(Slot::Made { place, .. }) => (Some(place), &[], place),
             Some(Slot::Own(number)) => match self.tracks.get(number as usize) {
                 Some(track) => track.parts(),
                 None => (None, &[], 0),
@@ -112,26 +119,28 @@ impl Shelf {
     }
 
     /// The upload that made the pack with a serial number, where one did, its statuses, and the entry by which it stands.
-    pub fn parts(&self, serial: &Serial) -> (Option<u32>, &[u32], u32)
-        ensures { record { birth = result.0; statuses = result.1.now; by = result.2; blocks = [] } ≡ bare (kept_in self.now serial.now) }
+    pub fn parts(&self, log: &[LogEntry], serial: &Serial) -> (Option<u32>, &[u32], u32)
+        requires { AreSlots log.now self.now.names self.now.slots }
+        ensures { record { birth = result.0; statuses = result.1.now; by = result.2; blocks = [] } ≡ bare (kept_in (shelf_by log.now self.now) serial.now) }
     {
-        self.kept(self.slots.get(serial).copied())
+        self.kept(self.slots.find(&self.names(log), serial).slot())
     }
 
     /// The serial numbers that have a slot, in the order in which each came first.
-    pub fn serials(&self) -> &[Serial]
-        ensures { result.now ≡ keys_of self.now.slots }
+    pub fn serials<'a>(&'a self, log: &'a [LogEntry]) -> ProductSerials<'a>
+        requires { AreSlots log.now self.now.names self.now.slots }
+        ensures { result ≡ keys_of (shelf_by log.now self.now).slots }
     {
-        self.slots.keys().as_slice()
+        self.slots.serials(self.names(log))
     }
 
     /// How many packs of the product are counted.
     pub fn count(&self, counted: Counted) -> usize
-        ensures count { result ≡ length (slots_counted counted self.now) }
-        ensures distinct { IsDistinct bytes_eq (keys_of self.now.slots) }
+        ensures { result ≡ length (slots_counted counted self.now) }
     {
         let mut count = 0;
-        for (_, slot) in self.slots.iter() {
+        let slots = self.slots.as_slice();
+        for slot in slots {
             let (birth, _, by) = self.kept(Some(*slot));
             let is_counted = match counted {
                 Counted::Every => birth.is_some(),
@@ -144,50 +153,40 @@ impl Shelf {
         count
     }
 
-    /// Adds the newest entry, an upload, to what is kept of one pack that it names; whether it is the first such by stamp. Where it is,
-    /// the pack's track is listed under its batch.
-    #[tactic(auto, using(crate::proofs::StoppedLemmas::key_added))]
-    fn put_upload(&mut self, newest: &Newest<'_>, gtin: &Gtin, serial: &Serial) -> bool
-        requires room { 0 < self.old.room }
-        requires worked { IsTrack newest.now.log.now (stops_in newest.now.log.now newest.now.stops.now) gtin.now (kept_in self.old serial.now) }
-        ensures room { self.old.room ≤ self.new.room + 1 }
-        ensures keys { keys_of self.new.slots ≡ insert_key bytes_eq (keys_of self.old.slots) serial.now }
-        ensures again { IsAgain newest.now.log.now (stops_in newest.now.log.now newest.now.stops.now) gtin.now
-            (earlier_place newest.now.log.now newest.now.place (kept_in self.old serial.now).birth) (kept_in self.old serial.now) (kept_in self.new serial.now) }
-        ensures others { (other : List ℕ) → bytes_eq serial.now other ≡ false → kept_in self.new other ≡ kept_in self.old other }
-        ensures first { result ≡ comes_first newest.now.log.now newest.now.place (kept_in self.old serial.now).birth }
-        ensures listed { (other batch : List ℕ) → is_listed_in self.old other batch ≡ true → is_listed_in self.new other batch ≡ true }
-        ensures made { result ≡ true → (batch : List ℕ) → batch_at newest.now.log.now newest.now.place ≡ Some batch → is_listed_in self.new serial.now batch ≡ true }
+    /// Adds the newest entry, an upload, to what is kept of the pack that it names at a place; whether it is the first such by stamp. Where
+    /// it is, the pack's track is listed under its batch.
+    fn put_upload(&mut self, newest: &Newest<'_>, gtin: &Gtin, serial: &Serial, index: u16) -> bool
+        requires room { 0 < self.old.slots.room }
+        requires named { slice_get (serials_uploaded (entry_at newest.now.log.now newest.now.place).entry.item) index ≡ Some serial.now }
+        requires slots { AreSlots newest.now.log.now self.old.names self.old.slots }
+        requires worked { IsTrack newest.now.log.now (stops_in newest.now.log.now newest.now.stops.now) gtin.now (kept_in (shelf_by newest.now.log.now self.old) serial.now) }
+        ensures room { self.old.slots.room ≤ self.new.slots.room + 1 }
+        ensures slots { AreSlots newest.now.log.now self.new.names self.new.slots }
+        ensures put { IsPut newest.now.log.now (stops_in newest.now.log.now newest.now.stops.now) gtin.now newest.now.place serial.now
+            (shelf_by newest.now.log.now self.old) (shelf_by newest.now.log.now self.new) }
+        ensures first { result ≡ comes_first newest.now.log.now newest.now.place (kept_in (shelf_by newest.now.log.now self.old) serial.now).birth }
     {
-        let Ok(entry) = self.slots.entry(serial.copy()) else {
-            unreachable!();
-        };
-        let made = Slot::Made(newest.place);
-        match entry {
-            Entry::Vacant(entry) => {
-                entry.insert(made);
-                true
+        let spot = self.slots.find(&self.names(newest.log), serial);
+        let is_first = match spot.slot() {
+            Some(Slot::Own(number)) => {
+                let track = &mut self.tracks[number as usize];
+                let is_first = track.add_upload(newest, gtin);
+                let place = is_first.then_some(newest.place);
+                self.listing.note(newest.log, place, number);
+                return is_first;
             }
-            Entry::Occupied(mut entry) => match *entry.get() {
-                Slot::Own(number) => {
-                    let track = &mut self.tracks[number as usize];
-                    let is_first = track.add_upload(newest, gtin);
-                    let place = is_first.then_some(newest.place);
-                    self.listing.note(newest.log, place, number);
-                    is_first
-                }
-                Slot::Made(first) => {
-                    let is_first = passes(newest.log, newest.place, first);
-                    if is_first {
-                        entry.insert(made);
-                    }
-                    is_first
-                }
-            },
+            Some(Slot::Made { place, .. }) => passes(newest.log, newest.place, place),
+            None => true,
+        };
+        if is_first {
+            let place = newest.place;
+            self.slots.put(spot, Slot::Made { place, index });
         }
+        is_first
     }
 
-    /// Adds the newest entry, an upload; its effect where it stands. Where memory is refused nothing has changed.
+    /// Adds the newest entry, an upload; its effect where it stands. Where memory is refused nothing has changed; for more than 2^16
+    /// serial numbers there is want of memory.
     pub fn add_upload(
         &mut self,
         newest: &Newest<'_>,
@@ -196,16 +195,19 @@ impl Shelf {
     ) -> Result<Effect, AllocError>
         requires stops { AreStopsOf (take newest.now.place newest.now.log.now) newest.now.stops.now }
         requires upload { IsUploadOf (entry_at newest.now.log.now newest.now.place).entry.item gtin.now serials.now }
-        requires shelf { IsShelfOf (take newest.now.place newest.now.log.now) gtin.now self.old }
-        ensures ok { OnOk result (IsShelfOf newest.now.log.now gtin.now self.new) }
+        requires shelf { AreShelfOf (take newest.now.place newest.now.log.now) gtin.now self.old }
+        ensures ok { OnOk result (AreShelfOf newest.now.log.now gtin.now self.new) }
         ensures effect { IfOk result (λ effect. effect ≡ newest_effect newest.now.log.now newest.now.place) }
-        ensures err { OnErr result (IsShelfOf (take newest.now.place newest.now.log.now) gtin.now self.new) }
+        ensures err { OnErr result (AreShelfOf (take newest.now.place newest.now.log.now) gtin.now self.new) }
     {
+        if serials.len() > MOST_SERIALS {
+            return Err(AllocError);
+        }
         self.slots.reserve(serials.len())?;
         // All room is got: nothing fails from here on. A track that finds no memory to be listed by makes the listing not whole.
         let mut new = 0;
-        for serial in serials {
-            let is_first = self.put_upload(newest, gtin, serial);
+        for index in 0..serials.len() {
+            let is_first = self.put_upload(newest, gtin, &serials[index], index as u16);
             new = if is_first { new + 1 } else { new };
         }
         Ok(Effect::Uploaded {
@@ -224,28 +226,32 @@ impl Shelf {
     ) -> Result<Effect, AllocError>
         requires stops { AreStopsOf (take newest.now.place newest.now.log.now) newest.now.stops.now }
         requires own { is_status_of pack.now (entry_at newest.now.log.now newest.now.place).entry.item ≡ true }
-        requires shelf { IsShelfOf (take newest.now.place newest.now.log.now) pack.now.gtin self.old }
-        ensures ok { OnOk result (IsShelfOf newest.now.log.now pack.now.gtin self.new) }
+        requires shelf { AreShelfOf (take newest.now.place newest.now.log.now) pack.now.gtin self.old }
+        ensures ok { OnOk result (AreShelfOf newest.now.log.now pack.now.gtin self.new) }
         ensures effect { IfOk result (λ effect. effect ≡ newest_effect newest.now.log.now newest.now.place) }
-        ensures err { OnErr result (IsShelfOf (take newest.now.place newest.now.log.now) pack.now.gtin self.new) }
+        ensures err { OnErr result (AreShelfOf (take newest.now.place newest.now.log.now) pack.now.gtin self.new) }
     {
-        let birth = match self.slots.get(&pack.serial).copied() {
+        let spot = self.slots.find(&self.names(newest.log), &pack.serial);
+        let birth = match spot.slot() {
             Some(Slot::Own(number)) => {
                 let track = &mut self.tracks[number as usize];
                 return track.add_status(newest, pack);
             }
-            Some(Slot::Made(first)) => Some(first),
+            Some(Slot::Made { place, .. }) => Some(place),
             None => None,
         };
         let number = self.tracks.len();
         if number > u32::MAX as usize {
             return Err(AllocError);
         }
+        self.slots.reserve(1)?;
+        self.names.reserve(1)?;
         self.tracks.reserve(1)?;
         let mut track = Track::new(alloc, birth);
         let effect = track.add_status(newest, pack)?;
-        self.slots
-            .insert(pack.serial.copy(), Slot::Own(number as u32))?;
+        // All room is got: nothing fails from here on.
+        self.slots.put(spot, Slot::Own(number as u32));
+        self.names.push_reserved(pack.serial.copy());
         self.listing.note(newest.log, birth, number as u32);
         self.tracks.push_reserved(track);
         Ok(effect)
@@ -255,8 +261,8 @@ impl Shelf {
     pub fn refresh(&mut self, newest: &Newest<'_>, stop: &Stop<'_>)
         requires stops { AreStopsOf newest.now.log.now newest.now.stops.now }
         requires stop { is_stop stop.now (entry_at newest.now.log.now newest.now.place).entry.item ≡ true }
-        requires shelf { IsShelfOf (take newest.now.place newest.now.log.now) (stopped_product stop.now) self.old }
-        ensures { IsShelfOf newest.now.log.now (stopped_product stop.now) self.new }
+        requires shelf { AreShelfOf (take newest.now.place newest.now.log.now) (stopped_product stop.now) self.old }
+        ensures { AreShelfOf newest.now.log.now (stopped_product stop.now) self.new }
     {
         refresh_stopped(&mut self.tracks, &self.listing, newest, stop);
     }

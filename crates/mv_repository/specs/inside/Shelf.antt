@@ -1,9 +1,10 @@
 -- What is kept of each pack of a product: a pack that has no status has a slot alone, and each other a track.
 use Rattle.std.specs.Prelude.{◌≡◌, ◌<◌, ◌==◌, ◌||◌}
-use Rattle.mv_repository.specs.Words.{ℕ, List, [], length, get_or, Bool, true, false, Option, Some, None, IfSome, bytes_eq, keys_of, lookup, option_and_then, option_map_or, filter, is_some, not, HashSet, Counted, Active, Every, Slot, Made, Own, list_any, Upload, Item, Carried, LogEntry, pack_key, unwrap_or, Stop, OfBatch, OfProduct}
-use Rattle.mv_repository.specs.inside.Track.{made_batch, Kept, Life, life_of, IsKept, IsTrack}
+use Rattle.mv_repository.specs.Words.{ℕ, List, [], length, get_or, Bool, true, false, Option, Some, None, IfSome, bytes_eq, keys_of, lookup, option_and_then, option_map_or, filter, is_some, not, HashSet, Counted, Active, Every, Slot, Made, Own, list_any, Upload, Item, Carried, LogEntry, insert_key, pack_key, unwrap_or, Stop, OfBatch, OfProduct}
+use Rattle.mv_repository.specs.inside.Track.{batch_at, comes_first, earlier_place, made_batch, Kept, Life, life_of, IsKept, IsTrack}
 use Rattle.mv_repository.specs.Bearing.{FirstStops}
 use Rattle.mv_repository.specs.Repository.{serials_of}
+use Rattle.mv_repository.specs.inside.Slots.{AreSlots, SlotTable, keyed}
 
 -- nothing is kept
 abbrev pub nothing_kept : Kept
@@ -12,14 +13,8 @@ nothing_kept = record { birth = None; statuses = []; by = 0; blocks = [] }
 -- what a slot stands for
 abbrev pub kept_by : List Kept → Option Slot → Kept
 kept_by tracks None = nothing_kept
-kept_by tracks (Some (Made place)) = record { birth = Some place; statuses = []; by = place; blocks = [] }
+kept_by tracks (Some (Made index place)) = record { birth = Some place; statuses = []; by = place; blocks = [] }
 kept_by tracks (Some (Own number)) = get_or tracks number nothing_kept
-
--- each number is that of a track, and no two packs have one track
-pub record IsShelf (slots : List (List ℕ × Slot)) (tracks : List Kept) : Type 0 where
-  pub within : (serial : List ℕ) (number : ℕ) → lookup (bytes_eq serial) slots ≡ Some (Own number) → number < length tracks
-  pub apart : (serial other : List ℕ) (number : ℕ) → lookup (bytes_eq serial) slots ≡ Some (Own number)
-      → lookup (bytes_eq other) slots ≡ Some (Own number) → bytes_eq serial other ≡ true
 
 -- the numbers of tracks by batch; where memory was refused for one, they are not all
 pub record ListingTable : Type 0 where
@@ -35,7 +30,17 @@ pub record ShelfTable : Type 0 where
   pub slots : List (List ℕ × Slot)
   pub tracks : List Kept
   pub listing : ListingTable
-  pub room : ℕ  -- for so many packs more, whatever the log has
+
+-- the same as it is kept, with the serial numbers of the packs that have a track
+pub record ShelfParts : Type 0 where
+  pub slots : SlotTable
+  pub names : List (List ℕ)
+  pub tracks : List Kept
+  pub listing : ListingTable
+
+-- what is kept so by a log
+abbrev pub shelf_by : List LogEntry → ShelfParts → ShelfTable
+shelf_by log parts = record { slots = keyed log parts.names parts.slots.slots; tracks = parts.tracks; listing = parts.listing }
 
 -- what is kept of a pack of the product, by its serial number
 abbrev pub kept_in : ShelfTable → List ℕ → Kept
@@ -78,12 +83,17 @@ pub record IsShelfOf (log : List LogEntry) (gtin : List ℕ) (shelf : ShelfTable
   pub packs : (serial : List ℕ) → IsPackOf (life_of (pack_key gtin serial) log) shelf serial
   pub serials : keys_of shelf.slots ≡ serials_of log gtin
 
+-- what is kept on a shelf is that of a product by a log
+pub record AreShelfOf (log : List LogEntry) (gtin : List ℕ) (parts : ShelfParts) : Type 0 where
+  pub slots : AreSlots log parts.names parts.slots
+  pub shelf : IsShelfOf log gtin (shelf_by log parts)
+
 -- a shelf with no pack
-abbrev pub no_shelf : ShelfTable
-no_shelf = record { slots = []; tracks = []; listing = record { is_whole = true; numbers = [] }; room = 0 }
+abbrev pub no_shelf : ShelfParts
+no_shelf = record { slots = record { hashes = []; slots = []; room = 0 }; names = []; tracks = []; listing = record { is_whole = true; numbers = [] } }
 
 -- the shelf of a product
-abbrev pub shelf_of : List ℕ → List (List ℕ × ShelfTable) → ShelfTable
+abbrev pub shelf_of : List ℕ → List (List ℕ × ShelfParts) → ShelfParts
 shelf_of gtin shelves = unwrap_or (lookup (bytes_eq gtin) shelves) no_shelf
 
 -- a track was worked out again by a log, where its pack has this upload
@@ -91,6 +101,14 @@ pub record IsAgain (log : List LogEntry) (stops : FirstStops) (gtin : List ℕ) 
   pub birth : new.birth ≡ upload
   pub statuses : new.statuses ≡ old.statuses
   pub worked : IsTrack log stops gtin new
+
+-- the newest entry, an upload that names a pack, was put into what is kept of the pack; other packs are kept as they were
+pub record IsPut (log : List LogEntry) (stops : FirstStops) (gtin : List ℕ) (place : ℕ) (serial : List ℕ) (old new : ShelfTable) : Type 0 where
+  pub keys : keys_of new.slots ≡ insert_key bytes_eq (keys_of old.slots) serial
+  pub again : IsAgain log stops gtin (earlier_place log place (kept_in old serial).birth) (kept_in old serial) (kept_in new serial)
+  pub others : (other : List ℕ) → bytes_eq serial other ≡ false → kept_in new other ≡ kept_in old other
+  pub listed : (other batch : List ℕ) → is_listed_in old other batch ≡ true → is_listed_in new other batch ≡ true
+  pub made : comes_first log place (kept_in old serial).birth ≡ true → (batch : List ℕ) → batch_at log place ≡ Some batch → is_listed_in new serial batch ≡ true
 
 -- a track was worked out again, or it stays
 abbrev pub IsRefreshed : List LogEntry → FirstStops → List ℕ → Bool → Kept → Kept → Type 0
@@ -103,5 +121,5 @@ is_counted Every kept = is_some kept.birth
 is_counted Active kept = option_map_or (λ birth. birth == kept.by) kept.birth false
 
 -- the slots of the packs on a shelf that are counted
-abbrev pub slots_counted : Counted → ShelfTable → List (List ℕ × Slot)
-slots_counted counted shelf = filter (λ slot. is_counted counted (kept_by shelf.tracks (Some slot.1))) shelf.slots
+abbrev pub slots_counted : Counted → ShelfParts → List Slot
+slots_counted counted parts = filter (λ slot. is_counted counted (kept_by parts.tracks (Some slot))) parts.slots.slots

@@ -6,7 +6,7 @@ use Rattle.mv_repository.specs.declared.inquiries.Inquiry.{Inquiry}
 use Rattle.mv_repository.specs.declared.tables.Tables.{Tables}
 use Rattle.mv_repository.specs.Order.{ordered}
 use Rattle.mv_repository.specs.Repository.{uploaded_packs}
-use Rattle.mv_repository.specs.inside.Shelf.{IsShelfOf, shelf_of}
+use Rattle.mv_repository.specs.inside.Shelf.{AreShelfOf, shelf_of}
 use Rattle.mv_repository.specs.inside.Track.{AreFound, AreStopsOf}
 use Rattle.mv_repository.specs.Verdict.{asked_parties, has_answered, has_finding, found_active, found_explained}
 
@@ -23,7 +23,7 @@ AreMastersOf log masters = AreFound bytes_eq is_master (λ test. last_or None (f
 pub record AreTablesOf (log : List LogEntry) (tables : Tables) : Type 0 where
   pub masters : AreMastersOf log tables.masters.entries
   pub stops : AreStopsOf log tables.stops
-  pub shelves : (gtin : List ℕ) → IsShelfOf log gtin (shelf_of gtin tables.shelves.entries)
+  pub shelves : (gtin : List ℕ) → AreShelfOf log gtin (shelf_of gtin tables.shelves.entries)
   pub named : tables.named ≡ length (uploaded_packs log)
 
 -- the query of the party that an item from a sender tells of: it is the receipt of one, or an answer to one

@@ -1,39 +1,55 @@
 -- One serial number more.
 use Rattle.std.specs.Prelude.{◌≡◌, ◌≤◌, ◌+◌, ◌∷◌}
-use Rattle.mv_repository.proofs.Lemmas.{bytes_eq, fold, fold-append, insert_key, serials-at, serials_of, take_more, text-self, upload-serials, nat_tests, ◌∙◌, rules, [], ℕ, List, ap, subst, sym, get_or, take, arith, cond, refl, Bool, get_or_default, take_all, kept_in, no_entry, comes_first, Kept, log-split, log-length, new-more, ArePacksOf, upload-worked, upload-adds, upload-all}
+use Rattle.mv_repository.proofs.Lemmas.{AreShelfOf, ArePacksOf, Bool, Kept, List, ShelfParts, Some, [], ap, arith, bytes_eq, comes_first, cond, fold, fold-append, get_or, get_or_default, insert_key, kept_in, log-length, log-split, nat_tests, new-more, no_entry, refl, rules, same-shelf, serials-at, serials_of, shelf-longer, shelf_by, slice_get, slice_get-get_or, subst, sym, take, take_all, take_more, text-self, upload-adds, upload-all, upload-names, upload-serials, upload-worked, ℕ, ◌∙◌}
 use Rattle.mv_repository.proofs.shelf.Shelf.add_upload.Goals as goal
+
+pub loop-index-init : goal.loop-index-init
+loop-index-init c =
+    let whole = c.args.newest.now.log.now in
+    let place = c.args.newest.now.place in
+    let old : ShelfParts = record { slots = c.self.inside.slots; names = c.self.inside.names.items; tracks = c.self.inside.tracks.items; listing = c.self.inside.listing } in
+    let room : ShelfParts = record old { slots = c.reserve.new.self } in
+    let longer = shelf-longer whole place c.args.gtin.now room
+    (same-shelf (take place whole) c.args.gtin.now old room c.reserve.ensures.hashes c.reserve.ensures.slots refl refl refl (subst (AreShelfOf (take place whole) c.args.gtin.now) (sym c.self.view_is) c.requires.shelf)) in
+    record { room = omega (arith, c.in_ok-reserve.ensures.room); slots = longer.0; packs = longer.1.packs; keys = longer.1.serials; new = refl; least = omega arith }
+
+pub put_upload-is_first-requires-clause-named : goal.put_upload-is_first-requires-clause-named
+put_upload-is_first-requires-clause-named c =
+    ap (λ (l : List (List ℕ)). slice_get l c.loop-index.index) (upload-names (get_or c.args.newest.now.log.now c.args.newest.now.place no_entry).item c.args.gtin.now c.args.serials.now c.requires.upload)
+    ∙ slice_get-get_or c.args.serials.now c.loop-index.index c.index-serials-index.result c.loop-index-test.true ∙ ap Some (sym c.index-serials-index.is)
 
 pub put_upload-is_first-requires-clause-worked : goal.put_upload-is_first-requires-clause-worked
 put_upload-is_first-requires-clause-worked c =
     upload-worked (take c.args.newest.now.place c.args.newest.now.log.now) (get_or c.args.newest.now.log.now c.args.newest.now.place no_entry) c.args.newest.now.stops.now c.args.gtin.now c.args.serials.now c.requires.stops c.requires.upload
-    c.loop-serial.self
+    (shelf_by c.args.newest.now.log.now c.loop-index.self)
     c.args.newest.now.log.now c.args.newest.now.place (log-split c.args.newest.now.log.now c.args.newest.now.place c.args.newest.now.last) (log-length c.args.newest.now.log.now c.args.newest.now.place c.args.newest.now.last)
-    (take c.loop-serial.serial-index c.args.serials.now) c.loop-serial.invariant.packs c.serial-item.result
+    (take c.loop-index.index c.args.serials.now) c.loop-index.invariant.packs c.index-serials-index.result
 
-pub loop-serial-preserved : goal.loop-serial-preserved
-loop-serial-preserved c =
+pub loop-index-preserved : goal.loop-index-preserved
+loop-index-preserved c =
     let whole = c.args.newest.now.log.now in
     let place = c.args.newest.now.place in
-    let at = c.loop-serial.serial-index in
-    let old = c.loop-serial.self in
-    let now = c.put_upload-is_first.new.self in
+    let at = c.loop-index.index in
+    let old = shelf_by whole c.loop-index.self in
+    let now = shelf_by whole c.put_upload-is_first.new.self in
     let done = c.put_upload-is_first.ensures in
     let split = log-split whole place c.args.newest.now.last in
     let before = serials_of (take place whole) c.args.gtin.now in
-    let serial : c.serial-item.result ≡ get_or c.args.serials.now at [] = c.serial-item.is ∙ get_or_default c.args.serials.now at _ [] c.loop-serial-test.true in
-    let counted : c.if-is_first.new ≡ cond c.put_upload-is_first.result (c.loop-serial.new + 1) c.loop-serial.new = search rules in
+    let serial : c.index-serials-index.result ≡ get_or c.args.serials.now at [] = c.index-serials-index.is ∙ get_or_default c.args.serials.now at _ [] c.loop-index-test.true in
+    let counted : c.if-is_first.new ≡ cond c.put_upload-is_first.result (c.loop-index.new + 1) c.loop-index.new = search rules in
     record {
-      room = omega (arith, c.loop-serial.invariant.room, done.room);
+      room = omega (arith, c.loop-index.invariant.room, done.room);
+      slots = done.slots;
       packs = upload-adds (take place whole) (get_or whole place no_entry) c.args.newest.now.stops.now c.args.gtin.now c.args.serials.now c.requires.stops c.requires.upload old
-          whole place split (log-length whole place c.args.newest.now.last) c.args.serials.now at now c.serial-item.result refl c.loop-serial-test.true serial c.loop-serial.invariant.packs
-          done.again.birth done.again.statuses done.again.worked done.others done.listed (λ first. done.made (done.first ∙ first));
-      keys = done.keys ∙ (λ i. insert_key bytes_eq (c.loop-serial.invariant.keys i) (serial i))
-          ∙ sym (ap (fold (insert_key bytes_eq) before) (take_more c.args.serials.now at [] c.loop-serial-test.true) ∙ fold-append (insert_key bytes_eq) before (take at c.args.serials.now) (get_or c.args.serials.now at [] ∷ []));
+          whole place split (log-length whole place c.args.newest.now.last) c.args.serials.now at now c.index-serials-index.result refl c.loop-index-test.true serial c.loop-index.invariant.packs
+          done.put.again.birth done.put.again.statuses done.put.again.worked done.put.others done.put.listed done.put.made;
+      keys = done.put.keys ∙ (λ i. insert_key bytes_eq (c.loop-index.invariant.keys i) (serial i))
+          ∙ sym (ap (fold (insert_key bytes_eq) before) (take_more c.args.serials.now at [] c.loop-index-test.true) ∙ fold-append (insert_key bytes_eq) before (take at c.args.serials.now) (get_or c.args.serials.now at [] ∷ []));
       new = counted ∙ new-more (take place whole) (get_or whole place no_entry) c.args.gtin.now c.args.serials.now c.requires.upload whole place split (log-length whole place c.args.newest.now.last)
-          at c.loop-serial.new c.put_upload-is_first.result c.loop-serial-test.true
-          (done.first ∙ ap (λ (one : List ℕ). comes_first whole place (kept_in old one).birth) serial ∙ ap (λ (k : Kept). comes_first whole place k.birth) (c.loop-serial.invariant.packs (get_or c.args.serials.now at [])).kept.bare)
-          c.loop-serial.invariant.new;
-      least = subst (λ (n : ℕ). n ≤ at + 1) (sym counted) (grow c.put_upload-is_first.result c.loop-serial.new at c.loop-serial.invariant.least);
+          at c.loop-index.new c.put_upload-is_first.result c.loop-index-test.true
+          (done.first ∙ ap (λ (one : List ℕ). comes_first whole place (kept_in old one).birth) serial ∙ ap (λ (k : Kept). comes_first whole place k.birth) (c.loop-index.invariant.packs (get_or c.args.serials.now at [])).kept.bare)
+          c.loop-index.invariant.new;
+      least = subst (λ (n : ℕ). n ≤ at + 1) (sym counted) (grow c.put_upload-is_first.result c.loop-index.new at c.loop-index.invariant.least);
     }
   where
     grow : (b : Bool) (count at : ℕ) → count ≤ at → cond b (count + 1) count ≤ at + 1
@@ -43,14 +59,17 @@ pub returns-clause-ok : goal.returns-clause-ok
 returns-clause-ok c =
     let whole = c.args.newest.now.log.now in
     let place = c.args.newest.now.place in
-    let shelf = c.loop-serial.self in
-    let all : take c.loop-serial.serial-index c.args.serials.now ≡ c.args.serials.now = take_all c.loop-serial.serial-index c.args.serials.now (omega arith) in
+    let all : take c.loop-index.index c.args.serials.now ≡ c.args.serials.now = take_all c.loop-index.index c.args.serials.now (omega arith) in
     let upload = c.requires.upload in
+    let shelf = shelf_by whole c.loop-index.self in
     record {
-      packs = upload-all (take place whole) (get_or whole place no_entry) c.args.newest.now.stops.now c.args.gtin.now c.args.serials.now c.requires.stops upload shelf
-          whole place (log-split whole place c.args.newest.now.last) (log-length whole place c.args.newest.now.last)
-          (subst (λ (l : List (List ℕ)). ArePacksOf whole (take place whole) l c.args.gtin.now shelf) all c.loop-serial.invariant.packs);
-      serials = c.loop-serial.invariant.keys ∙ ap (fold (insert_key bytes_eq) (serials_of (take place whole) c.args.gtin.now)) all
-          ∙ sym (serials-at whole place c.args.gtin.now c.args.serials.now c.args.newest.now.last
-          (upload-serials c.args.gtin.now c.args.gtin.now c.args.serials.now (get_or whole place no_entry).item upload ∙ ap (λ b. cond b c.args.serials.now []) (text-self c.args.gtin.now)));
+      slots = c.loop-index.invariant.slots;
+      shelf = record {
+        packs = upload-all (take place whole) (get_or whole place no_entry) c.args.newest.now.stops.now c.args.gtin.now c.args.serials.now c.requires.stops upload shelf
+            whole place (log-split whole place c.args.newest.now.last) (log-length whole place c.args.newest.now.last)
+            (subst (λ (l : List (List ℕ)). ArePacksOf whole (take place whole) l c.args.gtin.now shelf) all c.loop-index.invariant.packs);
+        serials = c.loop-index.invariant.keys ∙ ap (fold (insert_key bytes_eq) (serials_of (take place whole) c.args.gtin.now)) all
+            ∙ sym (serials-at whole place c.args.gtin.now c.args.serials.now c.args.newest.now.last
+            (upload-serials c.args.gtin.now c.args.gtin.now c.args.serials.now (get_or whole place no_entry).item upload ∙ ap (λ b. cond b c.args.serials.now []) (text-self c.args.gtin.now)));
+      };
     }

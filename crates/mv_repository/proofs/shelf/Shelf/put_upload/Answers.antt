@@ -1,34 +1,129 @@
 -- The pack has a slot, and the other packs keep theirs.
-use Rattle.std.specs.Prelude.{◌≡◌}
-use Rattle.mv_repository.proofs.Lemmas.{FirstStops, IsAgain, Kept, List, LogEntry, Made, Own, Some, ap, bytes_eq, earlier_place, get_or_default, kept_by, key_added, key_there, lookup, nothing_kept, rules, subst, sym, ℕ, ◌∙◌}
-use Rattle.mv_repository.proofs.shelf.Shelf.put_upload.Goals.{then-is_first, else-is_first}
+use Rattle.std.specs.Prelude.{◌≡◌, ◌<◌}
+use Rattle.mv_repository.proofs.Lemmas.{AreSlots, HasNoTrack, IfSome, IsAgain, IsSpot, Kept, List, LogEntry, Made, None, Option, Own, ShelfParts, ShelfTable, Slot, SlotTable, Some, [], ap, arith, bytes_eq, comes_first, common_steps, earlier_place, get_or, get_or_default, get_or_from_slice_get, hashes_with, keyed, kept_by, kept_in, batch_at, false, length, lists, lookup, nothing_kept, option_and_then, own-there, put-first, put-keyed, put-later, put-own, put-slots, rules, serial_of, serials_uploaded, shelf_by, slice_get_within, slots_with, stops_in, subst, sym, text-self, true, ℕ, ◌∙◌}
+use Rattle.mv_repository.proofs.Words.{IsPut, IsTrack, entry_at, set}
+use Rattle.mv_repository.proofs.shelf.Shelf.put_upload.Goals.{in-Some-Made, in-None}
 use Rattle.mv_repository.proofs.shelf.Shelf.put_upload.Goals as goal
 
-pub invariant_of-self : goal.invariant_of-self
-invariant_of-self c = record { within = λ serial number e. search (rules, c.self.invariant.within serial number); apart = λ serial other number e f. search (rules, c.self.invariant.apart serial other number) }
+pub index_mut-track-requires : goal.index_mut-track-requires
+index_mut-track-requires c =
+    let log = c.args.newest.now.log.now in
+    let names = c.self.inside.names.items in
+    let are : AreSlots log names c.self.inside.slots = subst (λ (parts : ShelfParts). AreSlots log parts.names parts.slots) (sym c.self.view_is) c.requires.slots in
+    let found : lookup (bytes_eq c.args.serial.now) (keyed log names c.self.inside.slots.slots) ≡ Some (Own c.in-Some-Own.number) = grind arith in
+    omega (arith, (own-there log names c.args.serial.now c.in-Some-Own.number c.self.inside.slots.slots are.named found).0, c.self.invariant)
 
-pub returns-in-Own-clause-keys : goal.returns-in-Own-clause-keys
-returns-in-Own-clause-keys c = search (rules, key_there bytes_eq c.self.inside.slots.entries c.args.serial.now (Own c.in-Own.number) (search rules))
+pub add_upload-is_first-requires : goal.add_upload-is_first-requires
+add_upload-is_first-requires c =
+    let log = c.args.newest.now.log.now in
+    let names = c.self.inside.names.items in
+    let tracks = c.self.inside.tracks.items in
+    let are : AreSlots log names c.self.inside.slots = subst (λ (parts : ShelfParts). AreSlots log parts.names parts.slots) (sym c.self.view_is) c.requires.slots in
+    let found : lookup (bytes_eq c.args.serial.now) (keyed log names c.self.inside.slots.slots) ≡ Some (Own c.in-Some-Own.number) = grind arith in
+    let within : c.in-Some-Own.number < length tracks = omega (arith, (own-there log names c.args.serial.now c.in-Some-Own.number c.self.inside.slots.slots are.named found).0, c.self.invariant) in
+    subst (IsTrack log (stops_in log c.args.newest.now.stops.now) c.args.gtin.now)
+    (ap (kept_by tracks) found ∙ get_or_default tracks c.in-Some-Own.number nothing_kept c.index_mut-track.result.now within ∙ sym c.index_mut-track.ensures.value)
+    (subst (λ (parts : ShelfParts). IsTrack log (stops_in log c.args.newest.now.stops.now) c.args.gtin.now (kept_in (shelf_by log parts) c.args.serial.now)) (sym c.self.view_is) c.requires.worked)
 
-pub returns-in-Vacant-clause-keys : goal.returns-in-Vacant-clause-keys
-returns-in-Vacant-clause-keys c = search (rules, key_added)
+module _ (c : goal.After-note) where
+  abbrev log : List LogEntry
+  log = c.args.newest.now.log.now
 
-pub returns-after-is_first-clause-keys : goal.returns-after-is_first-clause-keys
-returns-after-is_first-clause-keys c =
-    elim c.if-is_first.branch [ then-is_first w ↦ search (rules, key_added) | else-is_first w ↦ search (rules, key_there bytes_eq c.self.inside.slots.entries c.args.serial.now (Made c.in-Made.first) (search rules)) ]
+  abbrev names : List (List ℕ)
+  names = c.self.inside.names.items
 
--- what holds of a track holds of the pack that has it
-again_at : (place : ℕ) {log : List LogEntry} {stops : FirstStops} {gtin : List ℕ} {track track' old new : Kept} → old ≡ track → new ≡ track' → IsAgain log stops gtin (earlier_place log place track.birth) track track' → IsAgain log stops gtin (earlier_place log place old.birth) old new
-again_at place {log} {stops} {gtin} {track} {track'} {old} {new} e f again = subst (λ (k : Kept). IsAgain log stops gtin (earlier_place log place k.birth) k new) (sym e) (subst (IsAgain log stops gtin (earlier_place log place track.birth) track) (sym f) again)
+  abbrev tracks : List Kept
+  tracks = c.self.inside.tracks.items
 
--- the pack has the track of its number
-own_is : (c : goal.After-note) → kept_by c.self.inside.tracks.items (lookup (bytes_eq c.args.serial.now) c.self.inside.slots.entries) ≡ c.index_mut-track.result.now
-own_is c =
-    let slot : lookup (bytes_eq c.args.serial.now) c.self.inside.slots.entries ≡ Some (Own c.in-Own.number) = search rules in
-    ap (kept_by c.self.inside.tracks.items) slot ∙ get_or_default c.self.inside.tracks.items c.in-Own.number nothing_kept c.index_mut-track.result.now (c.self.invariant.within c.args.serial.now c.in-Own.number slot) ∙ sym c.index_mut-track.ensures.value
+  abbrev slots : List (List ℕ × Slot)
+  slots = keyed log names c.self.inside.slots.slots
 
-pub returns-in-Own-clause-again : goal.returns-in-Own-clause-again
-returns-in-Own-clause-again c = again_at c.args.newest.now.place (search (rules, own_is c)) (search rules) c.add_upload-is_first.ensures.again
+  are : AreSlots log names c.self.inside.slots
+  are = subst (λ (parts : ShelfParts). AreSlots log parts.names parts.slots) (sym c.self.view_is) c.requires.slots
 
-pub returns-in-Own-clause-first : goal.returns-in-Own-clause-first
-returns-in-Own-clause-first c = search (rules, own_is c)
+  found : lookup (bytes_eq c.args.serial.now) slots ≡ Some (Own c.in-Some-Own.number)
+  found = grind arith
+
+  own : (serial : List ℕ) → lookup (bytes_eq serial) slots ≡ Some (Own c.in-Some-Own.number) → (c.in-Some-Own.number < length names) × (serial ≡ get_or names c.in-Some-Own.number [])
+  own serial e = own-there log names serial c.in-Some-Own.number c.self.inside.slots.slots are.named e
+
+  within : c.in-Some-Own.number < length tracks
+  within = omega (arith, (own c.args.serial.now found).0, c.self.invariant)
+
+  track : get_or tracks c.in-Some-Own.number nothing_kept ≡ c.index_mut-track.result.now
+  track = get_or_default tracks c.in-Some-Own.number nothing_kept c.index_mut-track.result.now within ∙ sym c.index_mut-track.ensures.value
+
+pub returns-in-Some-Own-clause-slots : goal.returns-in-Some-Own-clause-slots
+returns-in-Some-Own-clause-slots c = are c
+
+pub returns-in-Some-Own-clause-put : goal.returns-in-Some-Own-clause-put
+returns-in-Some-Own-clause-put c =
+    let stops = stops_in (log c) c.args.newest.now.stops.now in
+    let serial = c.args.serial.now in
+    subst (λ (parts : ShelfParts). IsPut (log c) stops c.args.gtin.now c.args.newest.now.place serial (shelf_by (log c) parts)
+    (record { slots = slots c; tracks = set (tracks c) c.in-Some-Own.number c.add_upload-is_first.new.self; listing = c.note.new.self })) c.self.view_is
+    (put-own (log c) stops c.args.gtin.now c.args.newest.now.place serial (slots c) (tracks c) c.self.inside.listing c.in-Some-Own.number c.add_upload-is_first.new.self c.note.new.self (found c) (within c)
+    (λ other e. ap (bytes_eq serial) ((own c other e).1 ∙ sym (own c serial (found c)).1) ∙ text-self serial)
+    (subst (λ (k : Kept). IsAgain (log c) stops c.args.gtin.now (earlier_place (log c) c.args.newest.now.place k.birth) k c.add_upload-is_first.new.self) (sym (track c)) c.add_upload-is_first.ensures.again)
+    c.note.ensures.kept
+    (λ first batch b.
+    let is : c.add_upload-is_first.result ≡ true = c.add_upload-is_first.ensures.first ∙ ap (λ (k : Kept). comes_first (log c) c.args.newest.now.place k.birth) (sym (track c)) ∙ first in
+    let place : c.then_some-place.result ≡ Some c.args.newest.now.place = grind arith in
+    subst (λ (o : Option (List ℕ)). IfSome o (λ one. lists c.note.new.self one c.in-Some-Own.number ≡ true)) (ap (option_and_then (batch_at (log c))) place ∙ b) c.note.ensures.added))
+
+pub returns-in-Some-Own-clause-first : goal.returns-in-Some-Own-clause-first
+returns-in-Some-Own-clause-first c =
+    c.add_upload-is_first.ensures.first
+    ∙ ap (λ (k : Kept). comes_first (log c) c.args.newest.now.place k.birth) (sym (ap (kept_by (tracks c)) (found c) ∙ track c))
+    ∙ ap (λ (parts : ShelfParts). comes_first (log c) c.args.newest.now.place (kept_in (shelf_by (log c) parts) c.args.serial.now).birth) c.self.view_is
+
+module _ (c : goal.After-put) where
+  abbrev log-2 : List LogEntry
+  log-2 = c.args.newest.now.log.now
+
+  abbrev names-2 : List (List ℕ)
+  names-2 = c.self.inside.names.items
+
+  are-2 : AreSlots log-2 names-2 c.self.inside.slots
+  are-2 = subst (λ (parts : ShelfParts). AreSlots log-2 parts.names parts.slots) (sym c.self.view_is) c.requires.slots
+
+  spot : IsSpot log-2 names-2 c.self.inside.slots c.args.serial.now c.find-spot.result
+  spot = subst (λ (one : List LogEntry). IsSpot one names-2 c.self.inside.slots c.args.serial.now c.find-spot.result) c.names.ensures.log
+      (subst (λ (one : List (List ℕ)). IsSpot c.names.result.log.now one c.self.inside.slots c.args.serial.now c.find-spot.result) (c.names.ensures.own ∙ ap (λ (parts : ShelfParts). parts.names) (sym c.self.view_is)) c.find-spot.ensures)
+
+  named : serial_of log-2 names-2 (Made c.args.index c.args.newest.now.place) ≡ c.args.serial.now
+  named = get_or_from_slice_get (serials_uploaded (entry_at log-2 c.args.newest.now.place).entry.item) c.args.index c.args.serial.now [] c.requires.named
+
+pub returns-then-is_first-clause-slots : goal.returns-then-is_first-clause-slots
+returns-then-is_first-clause-slots c =
+    let old = c.self.inside.slots in
+    let new : Slot = Made c.args.index c.args.newest.now.place in
+    subst (λ (hashes : List ℕ). AreSlots (log-2 c) (names-2 c) (record { hashes = hashes; slots = c.put.new.self.slots; room = c.put.new.self.room })) (sym c.put.ensures.hashes)
+    (subst (λ (slots : List Slot). AreSlots (log-2 c) (names-2 c) (record { hashes = hashes_with c.find-spot.result.found c.find-spot.result.hash old.hashes; slots = slots; room = c.put.new.self.room })) (sym c.put.ensures.slots)
+    (put-slots (log-2 c) (names-2 c) old (are-2 c) c.args.serial.now c.find-spot.result (spot c) new (named c) c.put.new.self.room
+    (slice_get_within (serials_uploaded (entry_at (log-2 c) c.args.newest.now.place).entry.item) c.args.index c.args.serial.now c.requires.named)))
+
+pub returns-then-is_first-clause-put : goal.returns-then-is_first-clause-put
+returns-then-is_first-clause-put c =
+    let log = log-2 c in
+    let names = names-2 c in
+    let old = c.self.inside.slots in
+    let serial = c.args.serial.now in
+    let tracks = c.self.inside.tracks.items in
+    let slot : c.slot.result ≡ lookup (bytes_eq serial) (keyed log names old.slots) = c.slot.ensures ∙ (spot c).slot in
+    let none : HasNoTrack (lookup (bytes_eq serial) (keyed log names old.slots)) = elim c.match-slot.branch [ in-Some-Made w ↦ subst HasNoTrack (ap Some (sym w.in-Some-Made.field-0-is) ∙ sym w.in-Some-Made.is ∙ slot) tt | in-None w ↦ subst HasNoTrack (sym w.in-None.is ∙ slot) tt ] in
+    let first : comes_first log c.args.newest.now.place (kept_by tracks (lookup (bytes_eq serial) (keyed log names old.slots))).birth ≡ true = elim c.match-slot.branch [ in-Some-Made w ↦ grind arith | in-None w ↦ grind arith ] in
+    subst (λ (parts : ShelfParts). IsPut log (stops_in log c.args.newest.now.stops.now) c.args.gtin.now c.args.newest.now.place serial (shelf_by log parts)
+    (record { slots = keyed log names c.put.new.self.slots; tracks = tracks; listing = c.self.inside.listing })) c.self.view_is
+    (put-first log (stops_in log c.args.newest.now.stops.now) c.args.gtin.now c.args.newest.now.place serial (keyed log names old.slots) tracks c.self.inside.listing c.args.index (keyed log names c.put.new.self.slots)
+    (ap (keyed log names) c.put.ensures.slots ∙ put-keyed log names old (are-2 c) serial c.find-spot.result (spot c) (Made c.args.index c.args.newest.now.place) (named c)) none first)
+
+pub returns-else-is_first-clause-put : goal.returns-else-is_first-clause-put
+returns-else-is_first-clause-put c =
+    let log = c.args.newest.now.log.now in
+    let parts = c.args.self.now in
+    let serial = c.args.serial.now in
+    let spot : c.slot.result ≡ lookup (bytes_eq serial) (keyed log parts.names parts.slots.slots) = grind arith in
+    let none : HasNoTrack (lookup (bytes_eq serial) (keyed log parts.names parts.slots.slots)) = elim c.match-slot.branch [ in-Some-Made w ↦ subst HasNoTrack (ap Some (sym w.in-Some-Made.field-0-is) ∙ sym w.in-Some-Made.is ∙ spot) tt | in-None w ↦ subst HasNoTrack (sym w.in-None.is ∙ spot) tt ] in
+    let first : comes_first log c.args.newest.now.place (kept_in (shelf_by log parts) serial).birth ≡ false = elim c.match-slot.branch [ in-Some-Made w ↦ grind arith | in-None w ↦ grind arith ] in
+    put-later log (stops_in log c.args.newest.now.stops.now) c.args.gtin.now c.args.newest.now.place serial (keyed log parts.names parts.slots.slots) parts.tracks parts.listing none first c.requires.worked

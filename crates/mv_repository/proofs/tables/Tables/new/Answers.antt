@@ -1,0 +1,12 @@
+-- No shelf is kept.
+use Rattle.std.specs.Prelude.{◌≡◌}
+use Rattle.mv_repository.proofs.Lemmas.{[], AreShelfOf, no-shelf-yet, no_shelf, refl, rules, shelf_of, subst, sym}
+use Rattle.mv_repository.proofs.tables.Tables.new.Goals as goal
+
+pub returns : goal.returns
+returns c = record {
+  masters = search rules;
+  stops = search rules;
+  shelves = λ gtin. let none : shelf_of gtin c.new-4.result.entries ≡ no_shelf = search rules in subst (AreShelfOf [] gtin) (sym none) (no-shelf-yet gtin);
+  named = refl;
+}

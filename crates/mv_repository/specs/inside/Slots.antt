@@ -1,0 +1,62 @@
+-- What stands for each pack of a product. Its serial number stands elsewhere: in the upload that made it, or among the names of the packs
+-- that have a track.
+use Rattle.std.specs.Prelude.{◌≡◌, ◌<◌, ◌++◌, ◌∷◌, set}
+use Rattle.mv_index.specs.Hashes.{short_hash}
+use Rattle.mv_pack.specs.inside.Code.{filled_up}
+use Rattle.mv_repository.specs.Words.{ℕ, List, [], length, get_or, drop, take, map, Option, Some, None, bytes_eq, keys_of, lookup, option_map, AllByRecursion, IsDistinct, IfSome, Upload, Item, Carried, LogEntry, Slot, Made, Own}
+use Rattle.mv_repository.specs.Bearing.{entry_at}
+use Rattle.mv_repository.specs.declared.slots.Spot.{Spot}
+
+-- the serial numbers that an item uploads
+abbrev pub serials_uploaded : Item → List (List ℕ)
+serials_uploaded (Carried k stamp (Upload gtin batch expiry national serials)) = serials
+serials_uploaded _ = []
+
+-- the serial number of the pack that a slot stands for
+abbrev pub serial_of : List LogEntry → List (List ℕ) → Slot → List ℕ
+serial_of log names (Made index place) = get_or (serials_uploaded (entry_at log place).entry.item) index []
+serial_of log names (Own number) = get_or names number []
+
+-- a slot where there is none
+abbrev pub no_slot : Slot
+no_slot = Made 0 0
+
+-- it is there
+abbrev pub IsNamed : List LogEntry → List (List ℕ) → Slot → Type 0
+IsNamed log names (Made index place) = index < length (serials_uploaded (entry_at log place).entry.item)
+IsNamed log names (Own number) = number < length names
+
+-- the slots, each under its serial number
+abbrev pub keyed : List LogEntry → List (List ℕ) → List Slot → List (List ℕ × Slot)
+keyed log names slots = map (λ slot. (serial_of log names slot, slot)) slots
+
+-- the hash of a serial number
+abbrev pub serial_hash : List ℕ → ℕ
+serial_hash serial = short_hash (take 16 (filled_up serial) ∷ drop 16 (filled_up serial) ∷ [])
+
+-- what is kept of slots: each has the hash of its serial number
+pub record SlotTable : Type 0 where
+  pub hashes : List ℕ
+  pub slots : List Slot
+  pub room : ℕ  -- for so many packs more
+
+-- the slots stand for packs by a log, each for one
+pub record AreSlots (log : List LogEntry) (names : List (List ℕ)) (table : SlotTable) : Type 0 where
+  pub hashes : table.hashes ≡ map serial_hash (keys_of (keyed log names table.slots))
+  pub named : AllByRecursion (IsNamed log names) table.slots
+  pub distinct : IsDistinct bytes_eq (keys_of (keyed log names table.slots))
+
+-- where a serial number stands among the slots, or would stand
+pub record IsSpot (log : List LogEntry) (names : List (List ℕ)) (table : SlotTable) (serial : List ℕ) (spot : Spot) : Type 0 where
+  pub hash : spot.hash ≡ serial_hash serial
+  pub slot : option_map (λ found. found.1) spot.found ≡ lookup (bytes_eq serial) (keyed log names table.slots)
+  pub number : IfSome spot.found (λ found. (found.0 < length table.slots) × (serial_of log names (get_or table.slots found.0 no_slot) ≡ serial))
+
+-- the slots once one is written there, and the hashes
+abbrev pub slots_with : Option (ℕ × Slot) → Slot → List Slot → List Slot
+slots_with None slot slots = slots ++ slot ∷ []
+slots_with (Some found) slot slots = set slots found.0 slot
+
+abbrev pub hashes_with : Option (ℕ × Slot) → ℕ → List ℕ → List ℕ
+hashes_with None hash hashes = hashes ++ hash ∷ []
+hashes_with (Some found) hash hashes = hashes

@@ -2,7 +2,7 @@
 use Rattle.std.proofs.Common.{◌≡◌, ◌<◌, ◌≤◌, ◌-◌, ℕ, List, length, get_or, ap, sym, ◌∙◌, arith}
 use Rattle.std.proofs.Math.ListN.{get_or-map}
 use Rattle.mv_index.specs.declared.index.Link.{Link}
-use Rattle.mv_index.specs.inside.Chains.{IsLast, bucket_at, bucket_of, hashes_of, no_link}
+use Rattle.mv_index.specs.inside.Chains.{IsLast, bucket_of, hashes_of, no_link}
 
 module _ (P : ℕ → Type 0) (buckets : ℕ) (links : List Link) (hash : ℕ) where
   -- what is looked for is none of the numbers behind the last of its bucket

@@ -1,5 +1,5 @@
 -- The newest entry, an upload, put into what is kept of one pack that it names.
-use Rattle.mv_repository.proofs.Words.{⊤, insert_key, keys_of, Bool, FirstStops, IsAgain, IsPut, IsTrack, Kept, List, ListingTable, LogEntry, Made, None, Option, Own, ShelfTable, Slot, Some, [], ap, arith, batch_at, bytes_eq, comes_first, common_steps, cond, earlier_place, false, get_or, insert_entry, is_listed, kept_by, kept_in, length, lists, lookup, nat_tests, nothing_kept, refl, set, subst, sym, true, true≢false, ℕ, ◌<◌, ◌∙◌, ◌≡◌}
+use Rattle.mv_repository.proofs.Words.{⊤, insert_key, keys_of, Bool, FirstStops, IsAgain, IsPut, IsTrack, Kept, List, ListingTable, LogEntry, Made, None, Option, Own, ShelfTable, Slot, Some, [], ap, batch_at, bytes_eq, comes_first, cond, earlier_place, false, get_or, insert_entry, is_listed, kept_by, kept_in, length, lists, lookup, nothing_kept, refl, set, subst, sym, true, true≢false, ℕ, ◌<◌, ◌∙◌, ◌≡◌}
 use Rattle.mv_repository.proofs.SlotLemmas.{lookup-insert}
 use Rattle.mv_repository.proofs.StoppedLemmas.{key_added, key_there}
 use Rattle.mv_repository.proofs.KeptLemmas.{text-self}

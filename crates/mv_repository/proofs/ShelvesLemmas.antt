@@ -1,5 +1,5 @@
 -- What is kept of all packs, where the shelf of one product is written.
-use Rattle.mv_repository.proofs.Words.{◌≡◌, ◌∷◌, ◌||◌, bytes_eq, ℕ, List, refl, sym, subst, Bool, true, false, cond, same_text, LogEntry, AreShelfOf, no_shelf, arith, nat_tests, [], HashSet, lookup, map, lists, is_in, not, option_map, ShelfParts, shelf_of, unwrap_or}
+use Rattle.mv_repository.proofs.Words.{◌≡◌, ◌∷◌, ◌||◌, bytes_eq, ℕ, List, refl, sym, subst, Bool, true, false, cond, same_text, LogEntry, AreShelfOf, no_shelf, arith, nat_tests, [], HashSet, lookup, map, lists, is_in, not, option_map, ShelfParts, shelf_of}
 
 -- the product has this shelf, and each other product its own
 abbrev pub IsShelved : List (List ℕ × ShelfParts) → List (List ℕ × ShelfParts) → List ℕ → ShelfParts → Type 0

@@ -3,7 +3,7 @@ use Rattle.indexmap.proofs.MapLemmas.{absent_from_lookup, insert_entry-absent}
 use Rattle.std.proofs.lemmas.Map.Keys.{IsDistinct-push}
 use Rattle.std.proofs.lemmas.List.{get_or-take, map-append}
 use Rattle.std.proofs.Math.ListN.{get_or-eq_default, set}
-use Rattle.mv_repository.proofs.Words.{AllByRecursion, AreSlots, Bool, Carried, IfSome, IsDistinct, IsDistinct-cons, IsDistinct-head, IsDistinct-tail, IsNamed, IsSpot, Item, List, LogEntry, Made, None, Option, Own, Slot, SlotTable, Some, [], ap, arith, bytes_eq, common_steps, cond, entry_at, false, get_or, get_or_append_left, get_or_push, hashes_with, insert_entry, insert_key, keyed, keys_insert_entry, keys_of, length, length-append, list_any, nat_list_eq_equiv, nat_lt, no_slot, option_map, is_some-lookup, is_some, length-map, lookup, map, nat_tests, no_entry, refl, rules, same_text, serial_hash, serial_of, serials_uploaded, slots_with, subst, suc, sym, take, true, true≢false, unwrap_or, zero, ℕ, ◌++◌, ◌+◌, ◌<◌, ◌∙◌, ◌∷◌, ◌≡◌}
+use Rattle.mv_repository.proofs.Words.{AllByRecursion, AreSlots, Bool, IfSome, IsDistinct, IsDistinct-head, IsDistinct-tail, IsNamed, IsSpot, List, LogEntry, Made, None, Option, Own, Slot, SlotTable, Some, [], ap, arith, bytes_eq, common_steps, cond, false, get_or, get_or_append_left, get_or_push, hashes_with, insert_entry, insert_key, keyed, keys_of, length, length-append, list_any, nat_list_eq_equiv, nat_lt, no_slot, option_map, is_some-lookup, is_some, lookup, map, nat_tests, no_entry, refl, same_text, serial_hash, serial_of, serials_uploaded, slots_with, subst, suc, sym, take, true, true≢false, unwrap_or, zero, ℕ, ◌++◌, ◌<◌, ◌∙◌, ◌∷◌, ◌≡◌}
 use Rattle.mv_repository.proofs.KeptLemmas.{text-self, text-sym}
 use Rattle.mv_repository.proofs.StoppedLemmas.{key_added, key_there}
 use Rattle.mv_repository.specs.declared.slots.Spot.{Spot}

@@ -263,7 +263,8 @@ impl Repository {
     }
 
     /// Applies an item that came from a party: says what that did, at the item's own place in the order of stamps, and
-    /// gives the answer that it calls for, where it is a query. Want of memory leaves all as it was.
+    /// gives the answer that it calls for, where it is a query. Want of memory leaves all as it was. An upload of more than 2^16 serial
+    /// numbers is refused so too; no line names so many.
     pub fn apply(
         &mut self,
         sender: Party,

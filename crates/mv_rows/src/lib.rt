@@ -12,6 +12,8 @@ mod faults;
 #[cfg(test)]
 mod hub;
 #[cfg(test)]
+mod index;
+#[cfg(test)]
 mod lines;
 #[cfg(test)]
 mod link;

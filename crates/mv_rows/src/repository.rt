@@ -198,8 +198,9 @@ fn held_count(repository: &Repository, gtin: Gtin) -> usize {
 
 /// Whether the serial numbers of a product are S2 and S1.
 fn lists_serials(repository: &Repository, gtin: Gtin) -> bool {
-    match repository.serials(&gtin) {
-        [first, second] => first.as_str() == "S2" && second.as_str() == "S1",
+    let mut serials = repository.serials(&gtin);
+    match (serials.next(), serials.next(), serials.next()) {
+        (Some(first), Some(second), None) => first.as_str() == "S2" && second.as_str() == "S1",
         _ => false,
     }
 }
@@ -209,7 +210,7 @@ fn goes_through(repository: &mut Repository, alloc: Global) -> Option<bool> {
     let gtin = Gtin::read("09506000134352").ok()?;
     let other = Gtin::read("04012345678901").ok()?;
     apply_all(repository, alloc, &[7, 1, 2, 7])?;
-    let lists = lists_serials(repository, gtin) && repository.serials(&other).is_empty();
+    let lists = lists_serials(repository, gtin) && repository.serials(&other).next().is_none();
     Some(lists && held_count(repository, gtin) == 1)
 }
 

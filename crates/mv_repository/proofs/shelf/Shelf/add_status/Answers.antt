@@ -1,8 +1,8 @@
 -- The pack has the status, and no other track is touched.
 use Rattle.std.specs.Prelude.{◌≡◌, ◌<◌, ◌++◌, ◌∷◌}
 use Rattle.std.proofs.lemmas.List.{get_or-set_same}
-use Rattle.mv_repository.proofs.Lemmas.{AreShelfOf, AreSlots, Bool, IfSome, IsKept, IsShelfOf, IsSpot, Kept, List, LogEntry, Option, Own, ShelfParts, Slot, SlotTable, Some, [], ap, arith, batch-kept, batch-noted, batch_at, bytes_eq, common_steps, cond, false, get_or, get_or_append_left, get_or_default, get_or_push, hashes_with, insert_key, is_listed, key_added, key_there, keyed, keys_of, kept_by, length, life_batch, life_of, lists, lookup, lookup-insert, nothing_kept, on_err, on_map, option_and_then, own-keyed, own-slots, own-there, refl, rules, same-shelf, shelf-longer, shelf_by, slots_with, status-others, subst, sym, take, text-self, track-set, true, ℕ, ◌∙◌}
-use Rattle.mv_repository.proofs.Words.{Made, None, insert_entry, set}
+use Rattle.mv_repository.proofs.Lemmas.{AreShelfOf, AreSlots, IfSome, IsKept, IsShelfOf, IsSpot, Kept, List, LogEntry, Option, Own, ShelfParts, Slot, Some, [], ap, arith, batch-kept, batch-noted, batch_at, bytes_eq, cond, false, get_or, get_or_append_left, get_or_default, get_or_push, hashes_with, insert_key, is_listed, key_added, key_there, keyed, keys_of, kept_by, length, life_batch, life_of, lists, lookup, lookup-insert, nothing_kept, on_err, on_map, option_and_then, own-keyed, own-slots, own-there, refl, same-shelf, shelf-longer, shelf_by, slots_with, status-others, subst, sym, take, text-self, track-set, true, ℕ, ◌∙◌}
+use Rattle.mv_repository.proofs.Words.{Made, None, set}
 use Rattle.mv_repository.proofs.shelf.Shelf.add_status.Goals as goal
 
 pub find-spot-requires : goal.find-spot-requires

@@ -1,6 +1,6 @@
 -- The pack has a slot, and the other packs keep theirs.
 use Rattle.std.specs.Prelude.{◌≡◌, ◌<◌}
-use Rattle.mv_repository.proofs.Lemmas.{AreSlots, HasNoTrack, IfSome, IsAgain, IsSpot, Kept, List, LogEntry, Made, None, Option, Own, ShelfParts, ShelfTable, Slot, SlotTable, Some, [], ap, arith, bytes_eq, comes_first, common_steps, earlier_place, get_or, get_or_default, get_or_from_slice_get, hashes_with, keyed, kept_by, kept_in, batch_at, false, length, lists, lookup, nothing_kept, option_and_then, own-there, put-first, put-keyed, put-later, put-own, put-slots, rules, serial_of, serials_uploaded, shelf_by, slice_get_within, slots_with, stops_in, subst, sym, text-self, true, ℕ, ◌∙◌}
+use Rattle.mv_repository.proofs.Lemmas.{AreSlots, HasNoTrack, IfSome, IsAgain, IsSpot, Kept, List, LogEntry, Made, Option, Own, ShelfParts, Slot, Some, [], ap, arith, bytes_eq, comes_first, earlier_place, get_or, get_or_default, get_or_from_slice_get, hashes_with, keyed, kept_by, kept_in, batch_at, false, length, lists, lookup, nothing_kept, option_and_then, own-there, put-first, put-keyed, put-later, put-own, put-slots, serial_of, serials_uploaded, shelf_by, slice_get_within, stops_in, subst, sym, text-self, true, ℕ, ◌∙◌}
 use Rattle.mv_repository.proofs.Words.{IsPut, IsTrack, entry_at, set}
 use Rattle.mv_repository.proofs.shelf.Shelf.put_upload.Goals.{in-Some-Made, in-None}
 use Rattle.mv_repository.proofs.shelf.Shelf.put_upload.Goals as goal

@@ -1,5 +1,5 @@
 -- Each form of entry bears on one table; an upload and a status bear on the shelf of one product.
-use Rattle.mv_repository.proofs.Lemmas.{refl, rules, get_or, take, no_entry, arith, common_steps, none-noted, other-noted, master-form, masters-at, stops-at, same-at, shelves-at, named-at, tables-noted, IsUploadOf, is_status_of, true, on_err, on_map, map_err, upload-away, upload-form, status-away, status-form, shelf-kept, shelf-there, shelves-follow, log-split, named-longer, named-upload}
+use Rattle.mv_repository.proofs.Lemmas.{rules, get_or, take, no_entry, arith, common_steps, none-noted, other-noted, master-form, masters-at, stops-at, same-at, shelves-at, named-at, tables-noted, IsUploadOf, is_status_of, true, on_err, on_map, map_err, upload-away, upload-form, status-away, status-form, shelf-kept, shelf-there, shelves-follow, log-split, named-longer, named-upload}
 use Rattle.std.specs.Prelude.{◌≡◌}
 use Rattle.mv_repository.proofs.tables.Tables.add.Goals as goal
 

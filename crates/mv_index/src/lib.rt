@@ -9,7 +9,9 @@
 //!
 //! ```rust
 //! fn number_of(index: &HashIndex, names: &[u32], name: u32, hash: u32) -> Option<usize> {
-//!     index.find(hash, |number: usize| -> bool { names.get(number) == Some(&name) })
+//!     index.find(hash, |number: usize| -> bool {
+//!         names.get(number) == Some(&name)
+//!     })
 //! }
 //! ```
 #![tactic(auto)]

@@ -1,15 +1,15 @@
 //! The index.
 
-ghost use Rattle.std.specs.Prelude.{◌≡◌, ◌<◌, ◌≤◌, ◌+◌, ◌++◌, ◌∷◌, [], ℕ, length, get_or, true, false, IfSome, IfNone, IfOk, OnOk, OnErr, ◌^◌};
+ghost use Rattle.std.specs.Prelude.{◌≡◌, ◌<◌, ◌≤◌, ◌+◌, ◌++◌, ◌∷◌, [], ℕ, length, get_or, true, false, IfSome, IfNone, IfOk, IsTrue, ◌↔◌, OnOk, OnErr, ◌^◌};
 ghost use Rattle.mv_index.specs.Hashes.{no_hashes, short_hash};
-ghost use Rattle.mv_index.specs.inside.Chains.{IsChained, bucket_of, hashes_of};
+ghost use Rattle.mv_index.specs.inside.Chains.{HasPart, IsChained, bucket_of, hashes_of};
 
 use std::alloc::{AllocError, Global};
 use std::hash::{FoldHasher, Hash, Hasher};
 use std::marker::Model;
 
 /// How many numbers there are for each bucket, at most.
-const LOAD: usize = 2;
+const LOAD: usize = 3;
 
 /// The most numbers that an index has.
 pub const MOST_NUMBERS: usize = 1 << 31;
@@ -23,13 +23,46 @@ pub(crate) struct Link {
     pub(crate) before: u32,
 }
 
+/// What is kept of the numbers of one bucket.
+#[derive(Clone, Copy)]
+pub(crate) struct Bucket {
+    /// One more than the last of them; 0 where there is none.
+    pub(crate) last: u32,
+    /// Which of 32 parts of all hashes the bucket may have some of, a bit for each: so most of what is not there is not looked for.
+    pub(crate) parts: u32,
+}
+
+impl Bucket {
+    /// Whether it may have some of the part of all hashes that a hash is of.
+    #[tactic(auto, using(crate::proofs::ChainLemmas::part_is))]
+    fn has_part(&self, hash: u32) -> bool
+        ensures { IsTrue result ↔ HasPart self.now hash }
+    {
+        self.parts >> (hash >> 27) & 1 == 1
+    }
+
+    /// Puts one more number into it, which has a hash; gives one more than the number before it.
+    fn put(&mut self, number: u32, hash: u32) -> u32
+        requires { number + 1 < 2 ^ 32 }
+        ensures before { result ≡ self.old.last }
+        ensures last { self.new.last ≡ number + 1 }
+        ensures own { HasPart self.new hash }
+        ensures kept { (other : ℕ) → HasPart self.old other → HasPart self.new other }
+    {
+        let before = self.last;
+        self.last = number + 1;
+        self.parts |= 1 << (hash >> 27);
+        before
+    }
+}
+
 /// The numbers from 0 on, each by the hash of what it stands for. What that is stands elsewhere.
 #[derive(Drop)]
 pub struct HashIndex {
     /// What memory is got from.
     alloc: Global,
-    /// For each bucket one more than the last number in it; 0 where there is none.
-    heads: Vec<u32>,
+    /// The buckets.
+    buckets: Vec<Bucket>,
     /// For each number its hash, and the number before it in its bucket.
     links: Vec<Link>,
 }
@@ -42,9 +75,9 @@ impl Model for HashIndex {
 
     ghost Value = { Hashes };
 
-    ghost view = { λ a. record { hashes = hashes_of a.links.items; room = room_of (length a.heads.items) (length a.links.items) (vec_capacity a.links) } };
+    ghost view = { λ a. record { hashes = hashes_of a.links.items; room = room_of (length a.buckets.items) (length a.links.items) (vec_capacity a.links) } };
 
-    ghost invariant = { λ a. IsIndex a.heads.items a.links.items };
+    ghost invariant = { λ a. IsIndex a.buckets.items a.links.items };
 }
 
 impl HashIndex {
@@ -54,7 +87,7 @@ impl HashIndex {
     {
         HashIndex {
             alloc,
-            heads: Vec::new(alloc),
+            buckets: Vec::new(alloc),
             links: Vec::new(alloc),
         }
     }
@@ -66,10 +99,14 @@ impl HashIndex {
         ensures found { IfSome result (λ number. F.post is_it number true) }
         ensures absent { IfNone result ((number : ℕ) → number < length self.now.hashes → get_or self.now.hashes number 0 ≡ hash → F.post is_it number false) }
     {
-        if self.heads.is_empty() {
+        if self.buckets.is_empty() {
             return None;
         }
-        let mut at = self.heads[bucket_of(hash, self.heads.len())] as usize;
+        let bucket = self.buckets[bucket_of(hash, self.buckets.len())];
+        if !bucket.has_part(hash) {
+            return None;
+        }
+        let mut at = bucket.last as usize;
         while at > 0 {
             let link = self.links[at - 1];
             if link.hash == hash && is_it(at - 1) {
@@ -94,13 +131,10 @@ impl HashIndex {
             // By a quarter at least, so that it is seldom done, and little is left over.
             self.links.reserve_exact(additional.max(len / 4))?;
         }
-        let buckets = (len + additional) / LOAD + 1;
-        if buckets > self.heads.len() {
-            self.heads = chain_all(
-                self.alloc,
-                self.links.as_mut_slice(),
-                buckets.next_power_of_two(),
-            )?;
+        let wanted = (len + additional) / LOAD + 1;
+        if wanted > self.buckets.len() {
+            let links = self.links.as_mut_slice();
+            self.buckets = chain_all(self.alloc, links, wanted.next_power_of_two())?;
         }
         Ok(())
     }
@@ -113,7 +147,11 @@ impl HashIndex {
     {
         let number = self.links.len();
         self.links.push_reserved(Link { hash, before: 0 });
-        chain(self.heads.as_mut_slice(), self.links.as_mut_slice(), number);
+        chain(
+            self.buckets.as_mut_slice(),
+            self.links.as_mut_slice(),
+            number,
+        );
     }
 }
 
@@ -127,34 +165,35 @@ fn bucket_of(hash: u32, buckets: usize) -> usize
 }
 
 /// Chains a number, where all before it are chained.
-fn chain(heads: &mut [u32], links: &mut [Link], number: usize)
-    requires buckets { 0 < length heads.old }
+fn chain(buckets: &mut [Bucket], links: &mut [Link], number: usize)
+    requires buckets { 0 < length buckets.old }
     requires within { number < length links.old }
     requires few { length links.old ≤ 2 ^ 31 }
-    requires chained { IsChained heads.old links.old number }
-    ensures chained { IsChained heads.new links.new (number + 1) }
+    requires chained { IsChained buckets.old links.old number }
+    ensures chained { IsChained buckets.new links.new (number + 1) }
     ensures hashes { hashes_of links.new ≡ hashes_of links.old }
-    ensures count { length heads.new ≡ length heads.old }
+    ensures count { length buckets.new ≡ length buckets.old }
 {
-    let bucket = bucket_of(links[number].hash, heads.len());
-    links[number].before = heads[bucket];
-    heads[bucket] = number as u32 + 1;
+    let hash = links[number].hash;
+    let bucket = bucket_of(hash, buckets.len());
+    links[number].before = buckets[bucket].put(number as u32, hash);
 }
 
 /// Chains all numbers in so many new buckets. Where memory is refused nothing has changed.
-fn chain_all(alloc: Global, links: &mut [Link], buckets: usize) -> Result<Vec<u32>, AllocError>
-    requires buckets { 0 < buckets }
+fn chain_all(alloc: Global, links: &mut [Link], count: usize) -> Result<Vec<Bucket>, AllocError>
+    requires buckets { 0 < count }
     requires few { length links.old ≤ 2 ^ 31 }
-    ensures chained { IfOk result (λ heads. IsChained heads.items links.new (length links.new)) }
-    ensures buckets { IfOk result (λ heads. length heads.items ≡ buckets) }
+    ensures chained { IfOk result (λ buckets. IsChained buckets.items links.new (length links.new)) }
+    ensures count { IfOk result (λ buckets. length buckets.items ≡ count) }
     ensures hashes { hashes_of links.new ≡ hashes_of links.old }
     ensures err { OnErr result (links.new ≡ links.old) }
 {
-    let mut heads = vec![in alloc; 0; buckets]?;
+    let mut buckets = Vec::new(alloc);
+    buckets.resize(count, Bucket { last: 0, parts: 0 })?;
     for number in 0..links.len() {
-        chain(heads.as_mut_slice(), links, number);
+        chain(buckets.as_mut_slice(), links, number);
     }
-    Ok(heads)
+    Ok(buckets)
 }
 
 /// The hash of a value. Values that give a hasher the same have the same.

@@ -1,5 +1,7 @@
 -- How an index finds its numbers: those of one bucket are chained, from the last to the first.
-use Rattle.std.specs.Prelude.{◌≡◌, ◌≢◌, ◌<◌, ◌≤◌, ◌-◌, ◌==◌, if◌then◌else◌, ℕ, List, length, get_or, map, min, bit_and}
+use Rattle.std.specs.Prelude.{◌≡◌, ◌≢◌, ◌<◌, ◌≤◌, ◌-◌, ◌/◌, ◌^◌, ◌==◌, if◌then◌else◌, ℕ, List, length, get_or, map, min, bit_and}
+use Rattle.std.specs.Int.{bit_at}
+use Rattle.mv_index.specs.declared.index.Bucket.{Bucket}
 use Rattle.mv_index.specs.declared.index.Link.{Link}
 use Rattle.mv_index.specs.declared.index.TheConstants.{MOST_NUMBERS}
 
@@ -14,9 +16,19 @@ room_of buckets count capacity = if buckets == 0 then 0 else min capacity MOST_N
 abbrev pub bucket_of : ℕ → ℕ → ℕ
 bucket_of buckets hash = bit_and hash (buckets - 1)
 
--- a number and its link where there is none
+-- the part of all hashes that a hash is of, one of 32; a bucket may have some of it
+abbrev pub part_of : ℕ → ℕ
+part_of hash = hash / 2 ^ 27
+
+abbrev pub HasPart : Bucket → ℕ → Type 0
+HasPart bucket hash = bit_at bucket.parts (part_of hash) ≡ 1
+
+-- a link and a bucket where there is none
 abbrev pub no_link : Link
 no_link = record { hash = 0; before = 0 }
+
+abbrev pub no_bucket : Bucket
+no_bucket = record { last = 0; parts = 0 }
 
 -- the bucket of a number
 abbrev pub bucket_at : ℕ → List Link → ℕ → ℕ
@@ -28,14 +40,16 @@ pub record IsLast (buckets : ℕ) (links : List Link) (bucket : ℕ) (last : ℕ
   pub own : 0 < last → bucket_at buckets links (last - 1) ≡ bucket
   pub none : (other : ℕ) → last ≤ other → other < count → bucket_at buckets links other ≢ bucket
 
--- the first numbers are chained by their buckets
-pub record IsChained (heads : List ℕ) (links : List Link) (count : ℕ) : Type 0 where
-  pub lasts : (bucket : ℕ) → bucket < length heads → IsLast (length heads) links bucket (get_or heads bucket 0) count
+-- the first numbers are chained by their buckets, which have the parts of their hashes
+pub record IsChained (buckets : List Bucket) (links : List Link) (count : ℕ) : Type 0 where
+  pub lasts : (bucket : ℕ) → bucket < length buckets → IsLast (length buckets) links bucket (get_or buckets bucket no_bucket).last count
   pub befores : (number : ℕ) → number < count
-      → IsLast (length heads) links (bucket_at (length heads) links number) (get_or links number no_link).before number
+      → IsLast (length buckets) links (bucket_at (length buckets) links number) (get_or links number no_link).before number
+  pub parts : (number : ℕ) → number < count
+      → HasPart (get_or buckets (bucket_at (length buckets) links number) no_bucket) (get_or links number no_link).hash
 
 -- all numbers are chained, and where there are some there are buckets
-pub record IsIndex (heads : List ℕ) (links : List Link) : Type 0 where
-  pub chained : IsChained heads links (length links)
-  pub buckets : 0 < length links → 0 < length heads
+pub record IsIndex (buckets : List Bucket) (links : List Link) : Type 0 where
+  pub chained : IsChained buckets links (length links)
+  pub some : 0 < length links → 0 < length buckets
   pub few : length links ≤ MOST_NUMBERS

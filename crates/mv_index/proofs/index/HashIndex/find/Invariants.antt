@@ -6,7 +6,7 @@ use Rattle.mv_index.proofs.index.HashIndex.find.Given as goal
 abbrev pub invariant-loop-at : goal.invariant-loop-at
 invariant-loop-at g l = record {
   within : l.at ≤ length l.self-inside.links.items;
-  own : 0 < l.at → bucket_at (length l.self-inside.heads.items) l.self-inside.links.items (l.at - 1) ≡ bucket_of (length l.self-inside.heads.items) l.hash;
+  own : 0 < l.at → bucket_at (length l.self-inside.buckets.items) l.self-inside.links.items (l.at - 1) ≡ bucket_of (length l.self-inside.buckets.items) l.hash;
   none : (number : ℕ) → l.at ≤ number → number < length l.self-inside.links.items → get_or (hashes_of l.self-inside.links.items) number 0 ≡ l.hash → goal.F-post g l.is_it number false;
 }
 

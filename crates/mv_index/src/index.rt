@@ -96,6 +96,7 @@ impl HashIndex {
     pub fn find<F: Fn(usize) -> bool>(&self, hash: u32, is_it: F) -> Option<usize>
         requires { (number : ℕ) → number < length self.now.hashes → F.pre is_it number }
         ensures within { IfSome result (λ number. number < length self.now.hashes) }
+        ensures hash { IfSome result (λ number. get_or self.now.hashes number 0 ≡ hash) }
         ensures found { IfSome result (λ number. F.post is_it number true) }
         ensures absent { IfNone result ((number : ℕ) → number < length self.now.hashes → get_or self.now.hashes number 0 ≡ hash → F.post is_it number false) }
     {
@@ -117,7 +118,8 @@ impl HashIndex {
         None
     }
 
-    /// Gets room for more numbers. Where memory is refused, or for more than 2^31 numbers, nothing has changed.
+    /// Gets room for more numbers. It is refused where memory is, or for more than 2^31 numbers. Then each number keeps its hash, and there is
+    /// no less room than before.
     pub fn reserve(&mut self, additional: usize) -> Result<(), AllocError>
         ensures hashes { self.new.hashes ≡ self.old.hashes }
         ensures ok { OnOk result (additional ≤ self.new.room) }

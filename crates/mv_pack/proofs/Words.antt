@@ -1,7 +1,7 @@
 -- The names of the library, of the definitions, and of the crates below that the proofs cite, passed on from one place. Declares nothing.
-pub use Rattle.mv_pack.specs.Code.{IsCode, first_wrong, is_code_character, most_code_bytes, read_code}
+pub use Rattle.mv_pack.specs.Code.{IsCode, filled_up, first_wrong, is_code_character, most_code_bytes, read_code}
 pub use Rattle.mv_pack.specs.Gtin.{IsGtin, check_sum, is_digit, padded, read_gtin}
-pub use Rattle.mv_pack.specs.inside.Code.{IsFilledUp, filled_up, is_filled, is_zero, text_before}
+pub use Rattle.mv_pack.specs.inside.Code.{IsFilledUp, is_filled, is_zero, text_before}
 pub use Rattle.std.proofs.Common.{Bool, Err, IsUtf8, List, None, Ok, Result, Some, [], ap, ap₂, arith, cond, drop, false, get_or, length, not, pos, refl, replicate, subst, suc, sym, take, true, zero, ℕ, ◌&&◌, ◌*◌, ◌++◌, ◌+◌, ◌-◌, ◌<◌, ◌==◌, ◌∙◌, ◌∷◌, ◌≡◌, ◌≤ℤ◌, ◌≤◌}
 pub use Rattle.std.proofs.lemmas.Bool.{and_parts}
 pub use Rattle.std.proofs.lemmas.Bool.Decides.{nat_tests}

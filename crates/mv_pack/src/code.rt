@@ -6,8 +6,8 @@ ghost use Rattle.std.specs.Prelude.{◌≡◌, ◌<◌, ◌≤◌, ◌↔◌, �
 ghost use Rattle.mv_pack.specs.Words.{count_by, hashing, nat_cmp, nat_list_cmp_total, nat_list_eq_equiv, pointwise, slice_cmp, texts_po, texts_ties};
 ghost use Rattle.std.specs.Cmp.{partial_equiv_from_equiv};
 ghost use Rattle.std.proofs.Common.{rules};
-ghost use Rattle.mv_pack.specs.Code.{is_code_character, is_mark, first_wrong, most_code_bytes, read_code, IsCode};
-ghost use Rattle.mv_pack.specs.inside.Code.{is_filled, filled_up, text_before, IsFilledUp};
+ghost use Rattle.mv_pack.specs.Code.{filled_up, is_code_character, is_mark, first_wrong, most_code_bytes, read_code, IsCode};
+ghost use Rattle.mv_pack.specs.inside.Code.{is_filled, text_before, IsFilledUp};
 
 use crate::PackFault;
 use crate::ascii::text_of;

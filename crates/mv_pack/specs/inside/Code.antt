@@ -1,11 +1,7 @@
 -- How a code is kept: in 20 bytes, with zeros behind its text.
-use Rattle.std.specs.Prelude.{◌≡◌, ℕ, ◌+◌, ◌-◌, ◌++◌, replicate, ◌==◌, not, Bool, List, length}
+use Rattle.std.specs.Prelude.{◌≡◌, ℕ, ◌==◌, not, Bool, List}
 use Rattle.mv_pack.specs.Words.{before_first}
-use Rattle.mv_pack.specs.Code.{IsCode, most_code_bytes}
-
--- a text with zeros behind it, 20 bytes in all
-abbrev pub filled_up : List ℕ → List ℕ
-filled_up text = text ++ replicate (most_code_bytes - length text) 0
+use Rattle.mv_pack.specs.Code.{IsCode, filled_up}
 
 -- a byte stands for no character
 abbrev pub is_zero : ℕ → Bool

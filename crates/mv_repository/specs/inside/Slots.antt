@@ -2,7 +2,7 @@
 -- that have a track.
 use Rattle.std.specs.Prelude.{◌≡◌, ◌<◌, ◌++◌, ◌∷◌, set}
 use Rattle.mv_index.specs.Hashes.{short_hash}
-use Rattle.mv_pack.specs.inside.Code.{filled_up}
+use Rattle.mv_pack.specs.Code.{filled_up}
 use Rattle.mv_repository.specs.Words.{ℕ, List, [], length, get_or, drop, take, map, Option, Some, None, bytes_eq, keys_of, lookup, option_map, AllByRecursion, IsDistinct, IfSome, Upload, Item, Carried, LogEntry, Slot, Made, Own}
 use Rattle.mv_repository.specs.Bearing.{entry_at}
 use Rattle.mv_repository.specs.declared.slots.Spot.{Spot}

@@ -117,7 +117,7 @@ module _ (counted : Counted) where
 
   -- as many slots are counted as packs
   counted-slots : (log : List LogEntry) (parts : ShelfParts) (slots : List Slot)
-      → length (filter (λ slot. is_counted counted (kept_by parts.tracks (Some slot.1))) (keyed log parts.names slots)) ≡ length (filter (λ slot. is_counted counted (kept_by parts.tracks (Some slot))) slots)
+      → length (filter (λ slot. is_counted counted (kept_by parts.tracks (Some slot.1))) (keyed log parts.slots.table.names slots)) ≡ length (filter (λ slot. is_counted counted (kept_by parts.tracks (Some slot))) slots)
   counted-slots log parts [] = refl
   counted-slots log parts (slot ∷ slots) = grind (arith, nat_tests, counted-slots log parts slots)
 
@@ -125,7 +125,7 @@ module _ (counted : Counted) where
   counted-in log [] = refl
   counted-in log (s ∷ rest) =
       length-append (map (pack_key s.0) (keys_of (keyed_counted counted (shelf_by log s.1)))) (packs_counted counted (tables_by log rest))
-      ∙ (λ i. (length-map (keys_of (keyed_counted counted (shelf_by log s.1))) (pack_key s.0) ∙ length-keys_of (keyed_counted counted (shelf_by log s.1)) ∙ counted-slots log s.1 s.1.slots.slots) i + counted-in log rest i)
+      ∙ (λ i. (length-map (keys_of (keyed_counted counted (shelf_by log s.1))) (pack_key s.0) ∙ length-keys_of (keyed_counted counted (shelf_by log s.1)) ∙ counted-slots log s.1 s.1.slots.table.slots) i + counted-in log rest i)
 
   module _ (log : List LogEntry) where
     keys-by : (shelves : List (List ℕ × ShelfParts)) → keys_of (tables_by log shelves) ≡ keys_of shelves

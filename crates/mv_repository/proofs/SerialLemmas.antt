@@ -1,7 +1,7 @@
 -- The serial numbers of a product that a log names, after one more entry.
 use Rattle.mv_repository.proofs.Words.{◌≡◌, ◌+◌, ◌∷◌, bytes_eq, ℕ, List, [], length, get_or, take, fold, sym, ◌∙◌, ap, subst, true, true≢false, cond, insert_key, Item, Carried, Upload, Status, pack_key, PackKey, LogEntry, AreShelfOf, AreSlots, ShelfParts, ShelfTable, Slot, keyed, shelf_by, IsPackOf, IsShelfOf, IsUploadOf, Life, life_of, is_status_of, no_entry, no_shelf, refl, IsDistinct, serials_in, serials_of}
 use Rattle.mv_repository.proofs.KeptLemmas.{same_pack}
-use Rattle.mv_repository.proofs.SlotLemmas.{same-slots, slots-longer}
+use Rattle.mv_repository.proofs.SlotLemmas.{slots-longer}
 use Rattle.mv_repository.proofs.StoppedLemmas.{once-all}
 use Rattle.mv_repository.proofs.TableLemmas.{log-split}
 
@@ -41,19 +41,24 @@ no-shelf-yet gtin = record {
 }
 
 -- what is kept with other room
-pub same-shelf : (log : List LogEntry) (gtin : List ℕ) (parts new : ShelfParts) → new.slots.hashes ≡ parts.slots.hashes → new.slots.slots ≡ parts.slots.slots → new.names ≡ parts.names
-    → new.tracks ≡ parts.tracks → new.listing ≡ parts.listing → AreShelfOf log gtin parts → AreShelfOf log gtin new
-same-shelf log gtin parts new hashes slots names tracks listing of = record {
-  slots = same-slots log new.names parts.slots new.slots hashes slots (subst (λ (l : List (List ℕ)). AreSlots log l parts.slots) (sym names) of.slots);
-  shelf = subst (IsShelfOf log gtin) (sym (λ i. record { slots = keyed log (names i) (slots i); tracks = tracks i; listing = listing i })) of.shelf;
+pub same-shelf : (log : List LogEntry) (gtin : List ℕ) (parts new : ShelfParts) → new.slots.table ≡ parts.slots.table → new.tracks ≡ parts.tracks → new.listing ≡ parts.listing
+    → AreShelfOf log gtin parts → AreShelfOf log gtin new
+same-shelf log gtin parts new table tracks listing of = record {
+  slots = subst (AreSlots log) (sym table) of.slots;
+  shelf = subst (IsShelfOf log gtin) (sym (λ i. record { slots = keyed log (table i).names (table i).slots; tracks = tracks i; listing = listing i })) of.shelf;
 }
 
 -- what is kept on a shelf by the front of a log, is so by all of it
 pub shelf-longer : (whole : List LogEntry) (place : ℕ) (gtin : List ℕ) (parts : ShelfParts) → AreShelfOf (take place whole) gtin parts
-    → AreSlots whole parts.names parts.slots × IsShelfOf (take place whole) gtin (shelf_by whole parts)
+    → AreSlots whole parts.slots.table × IsShelfOf (take place whole) gtin (shelf_by whole parts)
 shelf-longer whole place gtin parts of =
-    let longer = slots-longer whole place parts.names parts.slots of.slots in
+    let longer = slots-longer whole place parts.slots.table of.slots in
     (longer.0, subst (λ (slots : List (List ℕ × Slot)). IsShelfOf (take place whole) gtin (record { slots = slots; tracks = parts.tracks; listing = parts.listing })) (sym longer.1) of.shelf)
+
+-- the same of a shelf as it is seen
+pub shelf-seen : {given parts : ShelfParts} (whole : List LogEntry) (place : ℕ) (gtin : List ℕ) → given ≡ parts → AreShelfOf (take place whole) gtin parts
+    → AreSlots whole given.slots.table × IsShelfOf (take place whole) gtin (shelf_by whole given)
+shelf-seen {given} whole place gtin e of = shelf-longer whole place gtin given (subst (AreShelfOf (take place whole) gtin) (sym e) of)
 
 pub shelf-kept : (whole : List LogEntry) (place : ℕ) (gtin : List ℕ) (parts : ShelfParts) → AreSamePacks whole (take place whole) gtin → AreShelfOf (take place whole) gtin parts → AreShelfOf whole gtin parts
 shelf-kept whole place gtin parts same of =

@@ -3,7 +3,7 @@ use Rattle.indexmap.proofs.MapLemmas.{absent_from_lookup, insert_entry-absent}
 use Rattle.std.proofs.lemmas.Map.Keys.{IsDistinct-push}
 use Rattle.std.proofs.lemmas.List.{get_or-take, map-append}
 use Rattle.std.proofs.Math.ListN.{get_or-eq_default, set}
-use Rattle.mv_repository.proofs.Words.{AllByRecursion, AreSlots, Bool, IfSome, IsDistinct, IsDistinct-head, IsDistinct-tail, IsNamed, IsSpot, List, LogEntry, Made, None, Option, Own, Slot, SlotTable, Some, [], ap, arith, bytes_eq, common_steps, cond, false, get_or, get_or_append_left, get_or_push, hashes_with, insert_entry, insert_key, keyed, keys_of, length, length-append, list_any, nat_list_eq_equiv, nat_lt, no_slot, option_map, is_some-lookup, is_some, lookup, map, nat_tests, no_entry, refl, same_text, serial_hash, serial_of, serials_uploaded, slots_with, subst, suc, sym, take, true, true≢false, unwrap_or, zero, ℕ, ◌++◌, ◌<◌, ◌∙◌, ◌∷◌, ◌≡◌}
+use Rattle.mv_repository.proofs.Words.{AllByRecursion, AreSlots, Bool, IfSome, IsDistinct, IsDistinct-head, IsDistinct-tail, IsNamed, IsSpot, IsWritten, List, LogEntry, Made, None, Option, Own, Slot, SlotTable, Some, [], ap, arith, bytes_eq, common_steps, cond, false, get_or, get_or_append_left, get_or_push, insert_entry, insert_key, keyed, keys_of, length, length-append, list_any, nat_list_eq_equiv, nat_lt, no_slot, is_some-lookup, is_some, lookup, map, nat_tests, no_entry, refl, same_text, serial_hash, serial_of, serials_uploaded, subst, suc, sym, take, true, true≢false, unwrap_or, zero, ℕ, ◌++◌, ◌<◌, ◌∙◌, ◌∷◌, ◌≡◌}
 use Rattle.mv_repository.proofs.KeptLemmas.{text-self, text-sym}
 use Rattle.mv_repository.proofs.StoppedLemmas.{key_added, key_there}
 use Rattle.mv_repository.specs.declared.slots.Spot.{Spot}
@@ -30,10 +30,10 @@ same-keyed whole place names (slot ∷ slots) h =
     let rest = same-keyed whole place names slots h.1 in
     ((one.0, rest.0), λ i. (one.1 i, slot) ∷ rest.1 i)
 
-pub slots-longer : (whole : List LogEntry) (place : ℕ) (names : List (List ℕ)) (table : SlotTable) → AreSlots (take place whole) names table
-    → AreSlots whole names table × (keyed whole names table.slots ≡ keyed (take place whole) names table.slots)
-slots-longer whole place names table are =
-    let same = same-keyed whole place names table.slots are.named in (
+pub slots-longer : (whole : List LogEntry) (place : ℕ) (table : SlotTable) → AreSlots (take place whole) table
+    → AreSlots whole table × (keyed whole table.names table.slots ≡ keyed (take place whole) table.names table.slots)
+slots-longer whole place table are =
+    let same = same-keyed whole place table.names table.slots are.named in (
       record {
         hashes = are.hashes ∙ ap (λ (l : List (List ℕ × Slot)). map serial_hash (keys_of l)) (sym same.1);
         named = same.0;
@@ -41,14 +41,6 @@ slots-longer whole place names table are =
       },
       same.1,
     )
-
--- slots that differ in their room alone
-pub same-slots : (log : List LogEntry) (names : List (List ℕ)) (old new : SlotTable) → new.hashes ≡ old.hashes → new.slots ≡ old.slots → AreSlots log names old → AreSlots log names new
-same-slots log names old new hashes slots are = record {
-  hashes = hashes ∙ are.hashes ∙ ap (λ (l : List Slot). map serial_hash (keys_of (keyed log names l))) (sym slots);
-  named = subst (AllByRecursion (IsNamed log names)) (sym slots) are.named;
-  distinct = subst (λ (l : List Slot). IsDistinct bytes_eq (keys_of (keyed log names l))) (sym slots) are.distinct;
-}
 
 module _ (log : List LogEntry) (names : List (List ℕ)) where
   -- one name more leaves those that are there
@@ -127,33 +119,6 @@ module _ (log : List LogEntry) (names : List (List ℕ)) where
   hashed (slot ∷ slots) zero l = refl
   hashed (slot ∷ slots) (suc number) l = hashed slots number (omega (arith, l))
 
-  -- a serial number that none has of those with its hash
-  not-hashed : (table : SlotTable) → AreSlots log names table → (serial : List ℕ)
-      → ((number : ℕ) → number < length table.hashes → get_or table.hashes number 0 ≡ serial_hash serial → bytes_eq (at table.slots number) serial ≡ false)
-      → lookup (bytes_eq serial) (keyed log names table.slots) ≡ None
-  not-hashed table are serial none = lookup-absent serial table.slots (λ number l. by number l (bytes_eq serial (at table.slots number)) refl)
-    where
-      by : (number : ℕ) → number < length table.slots → (b : Bool) → bytes_eq serial (at table.slots number) ≡ b → bytes_eq serial (at table.slots number) ≡ false
-      by number l false e = e
-      by number l true e =
-          text-sym serial (at table.slots number)
-          ∙ none number (omega (arith, l, ap length are.hashes, count table.slots)) (ap (λ hashes. get_or hashes number 0) are.hashes ∙ hashed table.slots number l ∙ ap serial_hash (sym (same_text serial (at table.slots number) (sym e))))
-
-  -- where it is found, and where it is not
-  pub spot-there : (table : SlotTable) → AreSlots log names table → (serial : List ℕ) (hash number : ℕ) (slot : Slot) → hash ≡ serial_hash serial
-      → number < length table.slots → at table.slots number ≡ serial → slot ≡ get_or table.slots number no_slot
-      → IsSpot log names table serial (record { hash = hash; found = Some (number, slot) })
-  spot-there table are serial hash number slot h l e is = record {
-    hash = h;
-    slot = ap Some is ∙ sym (lookup-there serial table.slots number l e are.distinct);
-    number = (l, e);
-  }
-
-  pub spot-none : (table : SlotTable) → AreSlots log names table → (serial : List ℕ) (hash : ℕ) → hash ≡ serial_hash serial
-      → ((number : ℕ) → number < length table.hashes → get_or table.hashes number 0 ≡ serial_hash serial → bytes_eq (at table.slots number) serial ≡ false)
-      → IsSpot log names table serial (record { hash = hash; found = None })
-  spot-none table are serial hash h none = record { hash = h; slot = sym (not-hashed table are serial none); number = tt }
-
   -- a slot is written where its serial number is, or behind all
   put-there : (serial : List ℕ) (slot : Slot) (slots : List Slot) (number : ℕ) → number < length slots → at slots number ≡ serial → serial_of log names slot ≡ serial
       → IsDistinct bytes_eq (keys_of (keyed log names slots)) → keyed log names (set slots number slot) ≡ insert_entry bytes_eq (keyed log names slots) serial slot
@@ -178,88 +143,111 @@ module _ (log : List LogEntry) (names : List (List ℕ)) where
   keyed-push new [] = refl
   keyed-push new (slot ∷ slots) = ap (λ rest. (serial_of log names slot, slot) ∷ rest) (keyed-push new slots)
 
-  module _ (table : SlotTable) (are : AreSlots log names table) (serial : List ℕ) (spot : Spot) (is : IsSpot log names table serial spot)
-      (new : Slot) (own : serial_of log names new ≡ serial) where
-    abbrev entries : List (List ℕ × Slot)
-    entries = keyed log names table.slots
+module _ (log : List LogEntry) (table : SlotTable) (are : AreSlots log table) (serial : List ℕ) where
+  abbrev entries : List (List ℕ × Slot)
+  entries = keyed log table.names table.slots
 
-    abbrev IsThere : Option (ℕ × Slot) → Type 0
-    IsThere found = IfSome found (λ one. (one.0 < length table.slots) × (at table.slots one.0 ≡ serial))
+  abbrev here : ℕ → List ℕ
+  here number = serial_of log table.names (get_or table.slots number no_slot)
 
-    -- a slot that is written where its serial number is goes under that
-    pub put-keyed : keyed log names (slots_with spot.found new table.slots) ≡ insert_entry bytes_eq entries serial new
-    put-keyed = by spot.found is.slot is.number
-      where
-        by : (found : Option (ℕ × Slot)) → option_map (λ one. one.1) found ≡ lookup (bytes_eq serial) entries → IsThere found
-            → keyed log names (slots_with found new table.slots) ≡ insert_entry bytes_eq entries serial new
-        by None e there =
-            keyed-push new table.slots ∙ ap (λ one. entries ++ (one, new) ∷ []) own
-            ∙ sym (insert_entry-absent bytes_eq serial new entries (absent_from_lookup (bytes_eq serial) entries (sym e)))
-        by (Some found) e there = put-there serial new table.slots found.0 there.0 there.1 own are.distinct
+  -- where it is found, and where it is not
+  pub spot-there : (hash number : ℕ) (slot : Slot) → hash ≡ serial_hash serial → number < length table.slots → here number ≡ serial → slot ≡ get_or table.slots number no_slot
+      → IsSpot log table serial (record { hash = hash; found = Some (number, slot) })
+  spot-there hash number slot h l e is = record {
+    hash = h;
+    slot = ap Some is ∙ sym (lookup-there log table.names serial table.slots number l e are.distinct);
+    number = (l, e);
+  }
 
-    keys-put : keys_of (keyed log names (slots_with spot.found new table.slots)) ≡ insert_key bytes_eq (keys_of entries) serial
-    keys-put = ap keys_of put-keyed ∙ key_added bytes_eq entries serial new
+  pub spot-none : (hash : ℕ) → hash ≡ serial_hash serial
+      → ((number : ℕ) → number < length table.hashes → get_or table.hashes number 0 ≡ serial_hash serial → bytes_eq (here number) serial ≡ false)
+      → IsSpot log table serial (record { hash = hash; found = None })
+  spot-none hash h none = record {
+    hash = h;
+    slot = sym (lookup-absent log table.names serial table.slots (λ number l. by number l (bytes_eq (here number) serial) refl));
+    number = tt;
+  }
+    where
+      by : (number : ℕ) → number < length table.slots → (b : Bool) → bytes_eq (here number) serial ≡ b → bytes_eq serial (here number) ≡ false
+      by number l false e = text-sym serial (here number) ∙ e
+      by number l true e =
+          text-sym serial (here number)
+          ∙ none number (omega (arith, l, ap length are.hashes, count log table.names table.slots))
+          (ap (λ hashes. get_or hashes number 0) are.hashes ∙ hashed log table.names table.slots number l ∙ ap serial_hash (same_text (here number) serial (sym e)))
 
-    -- the slots stay those of packs, each of one
-    pub put-slots : (room : ℕ) → IsNamed log names new
-        → AreSlots log names (record { hashes = hashes_with spot.found spot.hash table.hashes; slots = slots_with spot.found new table.slots; room = room })
-    put-slots room named = record {
-      hashes = hashes spot.found is.slot ∙ ap (map serial_hash) (sym keys-put);
-      named = all spot.found;
-      distinct = subst (IsDistinct bytes_eq) (sym keys-put) (distinct (list_any (bytes_eq serial) (keys_of entries)) refl);
+  module _ (new : Slot) (named : IsNamed log table.names new) (own : serial_of log table.names new ≡ serial) where
+    -- slots that go under their keys, with their hashes
+    is-written : (hashes : List ℕ) (slots : List Slot) → keyed log table.names slots ≡ insert_entry bytes_eq entries serial new → AllByRecursion (IsNamed log table.names) slots
+        → hashes ≡ map serial_hash (insert_key bytes_eq (keys_of entries) serial) → IsWritten log table (record { hashes = hashes; slots = slots; names = table.names }) serial new
+    is-written hashes slots e all h = record {
+      are = record { hashes = h ∙ ap (map serial_hash) (sym keys); named = all; distinct = subst (IsDistinct bytes_eq) (sym keys) (distinct (list_any (bytes_eq serial) (keys_of entries)) refl) };
+      entries = e;
     }
       where
-        hashes : (found : Option (ℕ × Slot)) → option_map (λ one. one.1) found ≡ lookup (bytes_eq serial) entries
-            → hashes_with found spot.hash table.hashes ≡ map serial_hash (insert_key bytes_eq (keys_of entries) serial)
-        hashes None e =
-            (λ i. are.hashes i ++ is.hash i ∷ []) ∙ sym (map-append serial_hash (keys_of entries) (serial ∷ []))
-            ∙ ap (λ b. map serial_hash (cond b (keys_of entries) (keys_of entries ++ serial ∷ []))) (sym (sym (is_some-lookup (bytes_eq serial) entries) ∙ ap is_some (sym e)))
-        hashes (Some found) e = are.hashes ∙ ap (map serial_hash) (key_there bytes_eq entries serial found.1 (sym e))
-
-        all : (found : Option (ℕ × Slot)) → AllByRecursion (IsNamed log names) (slots_with found new table.slots)
-        all None = all-push new table.slots named are.named
-        all (Some found) = all-set new table.slots found.0 named are.named
+        keys : keys_of (keyed log table.names slots) ≡ insert_key bytes_eq (keys_of entries) serial
+        keys = ap keys_of e ∙ key_added bytes_eq entries serial new
 
         distinct : (b : Bool) → list_any (bytes_eq serial) (keys_of entries) ≡ b → IsDistinct bytes_eq (cond b (keys_of entries) (keys_of entries ++ serial ∷ []))
         distinct true e = are.distinct
         distinct false e = IsDistinct-push nat_list_eq_equiv (keys_of entries) serial are.distinct e
 
--- a pack with a status gets a name and a track
-module _ (log : List LogEntry) (names : List (List ℕ)) (table : SlotTable) (are : AreSlots log names table) (serial : List ℕ) (spot : Spot) (is : IsSpot log names table serial spot)
-    (number : ℕ) (last : number ≡ length names) where
-  abbrev more : List (List ℕ)
-  more = names ++ serial ∷ []
+    pub written-there : (number : ℕ) → number < length table.slots → here number ≡ serial → IsWritten log table (record table { slots = set table.slots number new }) serial new
+    written-there number l there =
+        is-written table.hashes (set table.slots number new) (put-there log table.names serial new table.slots number l there own are.distinct) (all-set log table.names new table.slots number named are.named)
+        (are.hashes ∙ ap (map serial_hash) (key_there bytes_eq entries serial (get_or table.slots number no_slot) (lookup-there log table.names serial table.slots number l there are.distinct)))
 
-  same : AllByRecursion (IsNamed log more) table.slots × (keyed log more table.slots ≡ keyed log names table.slots)
-  same = more-named log names serial table.slots are.named
+    pub written-behind : (hash : ℕ) → hash ≡ serial_hash serial → lookup (bytes_eq serial) entries ≡ None
+        → IsWritten log table (record table { hashes = table.hashes ++ hash ∷ []; slots = table.slots ++ new ∷ [] }) serial new
+    written-behind hash h none =
+        is-written (table.hashes ++ hash ∷ []) (table.slots ++ new ∷ [])
+        (keyed-push log table.names new table.slots ∙ ap (λ one. entries ++ (one, new) ∷ []) own
+        ∙ sym (insert_entry-absent bytes_eq serial new entries (absent_from_lookup (bytes_eq serial) entries none)))
+        (all-push log table.names new table.slots named are.named)
+        ((λ i. are.hashes i ++ h i ∷ []) ∙ sym (map-append serial_hash (keys_of entries) (serial ∷ []))
+        ∙ ap (λ b. map serial_hash (cond b (keys_of entries) (keys_of entries ++ serial ∷ []))) (sym (sym (is_some-lookup (bytes_eq serial) entries) ∙ ap is_some none)))
 
-  are-more : AreSlots log more table
+-- a pack gets a name and the next number
+module _ (log : List LogEntry) (table : SlotTable) (are : AreSlots log table) (serial : List ℕ) where
+  abbrev more : SlotTable
+  more = record table { names = table.names ++ serial ∷ [] }
+
+  same : AllByRecursion (IsNamed log more.names) table.slots × (keyed log more.names table.slots ≡ keyed log table.names table.slots)
+  same = more-named log table.names serial table.slots are.named
+
+  are-more : AreSlots log more
   are-more = record {
-    hashes = subst (λ (l : List (List ℕ × Slot)). table.hashes ≡ map serial_hash (keys_of l)) (sym same.1) are.hashes;
+    hashes = are.hashes ∙ ap (λ (l : List (List ℕ × Slot)). map serial_hash (keys_of l)) (sym same.1);
     named = same.0;
     distinct = subst (λ (l : List (List ℕ × Slot)). IsDistinct bytes_eq (keys_of l)) (sym same.1) are.distinct;
   }
 
-  is-more : IsSpot log more table serial spot
-  is-more = record { hash = is.hash; slot = is.slot ∙ ap (lookup (bytes_eq serial)) (sym same.1); number = by spot.found is.number }
+  is-more : (spot : Spot) → IsSpot log table serial spot → IsSpot log more serial spot
+  is-more spot is = record { hash = is.hash; slot = is.slot ∙ ap (lookup (bytes_eq serial)) (sym same.1); number = by spot.found is.number }
     where
-      by : (found : Option (ℕ × Slot)) → IfSome found (λ one. (one.0 < length table.slots) × (serial_of log names (get_or table.slots one.0 no_slot) ≡ serial))
-          → IfSome found (λ one. (one.0 < length table.slots) × (serial_of log more (get_or table.slots one.0 no_slot) ≡ serial))
+      by : (found : Option (ℕ × Slot)) → IfSome found (λ one. (one.0 < length table.slots) × (serial_of log table.names (get_or table.slots one.0 no_slot) ≡ serial))
+          → IfSome found (λ one. (one.0 < length table.slots) × (serial_of log more.names (get_or table.slots one.0 no_slot) ≡ serial))
       by None h = tt
-      by (Some one) h = (h.0, name (get_or table.slots one.0 no_slot) (slot-named log names table.slots one.0 h.0 are.named) ∙ h.1)
+      by (Some one) h = (h.0, name (get_or table.slots one.0 no_slot) (slot-named log table.names table.slots one.0 h.0 are.named) ∙ h.1)
         where
-          name : (slot : Slot) → IsNamed log names slot → serial_of log more slot ≡ serial_of log names slot
+          name : (slot : Slot) → IsNamed log table.names slot → serial_of log more.names slot ≡ serial_of log table.names slot
           name (Made index place) h = refl
           name (Own one) h = grind (arith, get_or_append_left, h)
 
-  named : serial_of log more (Own number) ≡ serial
-  named = ap (λ n. get_or more n []) last ∙ get_or_push names serial [] (length names) refl
-
-  pub own-keyed : keyed log more (slots_with spot.found (Own number) table.slots) ≡ insert_entry bytes_eq (keyed log names table.slots) serial (Own number)
-  own-keyed = put-keyed log more table are-more serial spot is-more (Own number) named ∙ ap (λ (l : List (List ℕ × Slot)). insert_entry bytes_eq l serial (Own number)) same.1
-
-  pub own-slots : (room : ℕ) → AreSlots log more (record { hashes = hashes_with spot.found spot.hash table.hashes; slots = slots_with spot.found (Own number) table.slots; room = room })
-  own-slots room = put-slots log more table are-more serial spot is-more (Own number) named room (omega (arith, last, length-append names (serial ∷ [])))
+  -- so its slot is written among those of one name more
+  pub written-own : (given : SlotTable) → given ≡ more → (number : ℕ) → number ≡ length table.names → (spot : Spot) → IsSpot log table serial spot → (new : SlotTable)
+      → (AreSlots log given → IsSpot log given serial spot → IsNamed log given.names (Own number) → serial_of log given.names (Own number) ≡ serial → IsWritten log given new serial (Own number))
+      → IsWritten log table new serial (Own (length table.names))
+  written-own given e number n spot is new writes = record {
+    are = written.are;
+    entries = written.entries ∙ (λ i. insert_entry bytes_eq (keyed log (e i).names (e i).slots) serial (Own (n i)))
+        ∙ ap (λ (l : List (List ℕ × Slot)). insert_entry bytes_eq l serial (Own (length table.names))) same.1;
+  }
+    where
+      written : IsWritten log given new serial (Own number)
+      written =
+          writes (subst (AreSlots log) (sym e) are-more) (subst (λ (t : SlotTable). IsSpot log t serial spot) (sym e) (is-more spot is))
+          (omega (arith, n, ap (λ (t : SlotTable). length t.names) e, length-append table.names (serial ∷ [])))
+          ((λ i. get_or (e i).names (n i) []) ∙ get_or_push table.names serial [] (length table.names) refl)
 
 -- what is found once a value is put in under a key
 pub lookup-insert : (key : List ℕ) (slot : Slot) (other : List ℕ) (entries : List (List ℕ × Slot))

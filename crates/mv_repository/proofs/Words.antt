@@ -21,7 +21,7 @@ pub use Rattle.mv_repository.specs.declared.inquiries.Inquiry.{Inquiry}
 pub use Rattle.mv_repository.specs.declared.tables.Tables.{Tables}
 pub use Rattle.mv_repository.specs.inside.Track.{AreAt, history_at, AreFirstsOf, AreFound, AreStopsOf, HasFirst, comes_first, earlier_place, first_place, is_stop, place_of, stopped_product, stops_in, AreBlocks, IsCovered, IsCut, IsFront, IsKept, IsSummary, IsTrack, Kept, Life, bare, batch_at, change_in, effect_from, effect_in, effect_on, entry_in, held_at, known_at, life_of, made_batch, next_by, next_in, next_place, standing_in, start_in, start_of, track_of, without}
 pub use Rattle.mv_repository.specs.inside.Shelf.{AreShelfOf, IsAgain, IsPackOf, IsPut, IsRefreshed, IsShelfOf, IsUploadOf, ListingTable, ShelfParts, ShelfTable, has_number, is_counted, is_in, is_listed, kept_by, kept_in, lists, may_stop, no_shelf, nothing_kept, shelf_by, shelf_of, slots_counted}
-pub use Rattle.mv_repository.specs.inside.Slots.{AreSlots, IsNamed, IsSpot, SlotTable, hashes_with, keyed, no_slot, serial_hash, serial_of, serials_uploaded, slots_with}
+pub use Rattle.mv_repository.specs.inside.Slots.{AreSlots, IsNamed, IsSpot, IsWritten, RoomySlots, SlotTable, keyed, no_slot, serial_hash, serial_of, serials_uploaded}
 pub use Rattle.mv_repository.specs.inside.Tables.{AreMastersOf, AreTablesOf, IsInquiriesOf, has_reply, inquiry_after, inquiry_of, is_master, no_inquiry, query_of}
 pub use Rattle.std.proofs.Common.{Bool, IfSome, List, None, OnErr, OnOk, Option, Result, Some, [], ap, append-nil, append_assoc, arith, cond, drop, false, filter, find, fold, get_or, inl, inr, insert, is_some, length, length-append, map, min, nat_eq, nat_lt, not, refl, rules, set, subst, suc, sym, take, true, true≢false, zero, ℕ, ◌∙◌}
 pub use Rattle.std.proofs.Math.Bool.{and-true, or-false, or-true}

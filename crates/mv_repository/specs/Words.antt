@@ -1,6 +1,6 @@
 -- The names of the library, and of the types of these crates, that the definitions cite, passed on from one
 -- place. Declares nothing.
-pub use Rattle.indexmap.specs.IndexMap.{spare as map_spare}
+pub use Rattle.indexmap.specs.IndexMap.{insert_entry, spare as map_spare}
 pub use Rattle.indexmap.specs.IndexSet.{insert_all, insert_key, spare as set_spare}
 pub use Rattle.mv_link.specs.declared.item.Item.TheVariants.{Carried, Receipt}
 pub use Rattle.mv_link.specs.declared.item.Item.{Item}

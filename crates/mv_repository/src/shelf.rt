@@ -5,7 +5,7 @@ ghost use Rattle.mv_repository.specs.Clauses.{AreShelfOf, AreSlots, AreStopsOf, 
 
 use crate::entry::passes;
 use crate::listing::Listing;
-use crate::slots::{Names, Slot, Slots};
+use crate::slots::{Slot, Slots};
 use crate::state::Newest;
 use crate::stops::Stop;
 use crate::track::Track;
@@ -60,9 +60,7 @@ const MOST_SERIALS: usize = 1 << 16;
 pub(crate) struct Shelf {
     /// What stands for each serial number that an upload or a status names.
     slots: Slots,
-    /// The serial numbers of the packs that have a status, by the numbers of their tracks.
-    names: Vec<Serial>,
-    /// The tracks of these.
+    /// The tracks of the packs that have a status.
     tracks: Vec<Track>,
     /// The numbers of the tracks by batch.
     listing: Listing,
@@ -74,9 +72,9 @@ impl Model for Shelf {
 
     ghost Value = { ShelfParts };
 
-    ghost view = { λ a. record { slots = a.slots; names = a.names.items; tracks = a.tracks.items; listing = a.listing } };
+    ghost view = { λ a. record { slots = a.slots; tracks = a.tracks.items; listing = a.listing } };
 
-    ghost invariant = { λ a. length a.names.items ≡ length a.tracks.items };
+    ghost invariant = { λ a. length a.slots.table.names ≡ length a.tracks.items };
 }
 
 impl Shelf {
@@ -86,20 +84,8 @@ impl Shelf {
     {
         Shelf {
             slots: Slots::new(alloc),
-            names: Vec::new(alloc),
             tracks: Vec::new(alloc),
             listing: Listing::new(alloc),
-        }
-    }
-
-    /// Where the serial numbers of the slots stand.
-    fn names<'a>(&'a self, log: &'a [LogEntry]) -> Names<'a>
-        ensures log { result.log.now ≡ log.now }
-        ensures own { result.own.now ≡ self.now.names }
-    {
-        Names {
-            log,
-            own: self.names.as_slice(),
         }
     }
 
@@ -120,18 +106,18 @@ impl Shelf {
 
     /// The upload that made the pack with a serial number, where one did, its statuses, and the entry by which it stands.
     pub fn parts(&self, log: &[LogEntry], serial: &Serial) -> (Option<u32>, &[u32], u32)
-        requires { AreSlots log.now self.now.names self.now.slots }
+        requires { AreSlots log.now self.now.slots.table }
         ensures { record { birth = result.0; statuses = result.1.now; by = result.2; blocks = [] } ≡ bare (kept_in (shelf_by log.now self.now) serial.now) }
     {
-        self.kept(self.slots.find(&self.names(log), serial).slot())
+        self.kept(self.slots.find(log, serial).slot())
     }
 
     /// The serial numbers that have a slot, in the order in which each came first.
     pub fn serials<'a>(&'a self, log: &'a [LogEntry]) -> ProductSerials<'a>
-        requires { AreSlots log.now self.now.names self.now.slots }
+        requires { AreSlots log.now self.now.slots.table }
         ensures { result ≡ keys_of (shelf_by log.now self.now).slots }
     {
-        self.slots.serials(self.names(log))
+        self.slots.serials(log)
     }
 
     /// How many packs of the product are counted.
@@ -158,15 +144,15 @@ impl Shelf {
     fn put_upload(&mut self, newest: &Newest<'_>, gtin: &Gtin, serial: &Serial, index: u16) -> bool
         requires room { 0 < self.old.slots.room }
         requires named { slice_get (serials_uploaded (entry_at newest.now.log.now newest.now.place).entry.item) index ≡ Some serial.now }
-        requires slots { AreSlots newest.now.log.now self.old.names self.old.slots }
+        requires slots { AreSlots newest.now.log.now self.old.slots.table }
         requires worked { IsTrack newest.now.log.now (stops_in newest.now.log.now newest.now.stops.now) gtin.now (kept_in (shelf_by newest.now.log.now self.old) serial.now) }
         ensures room { self.old.slots.room ≤ self.new.slots.room + 1 }
-        ensures slots { AreSlots newest.now.log.now self.new.names self.new.slots }
+        ensures slots { AreSlots newest.now.log.now self.new.slots.table }
         ensures put { IsPut newest.now.log.now (stops_in newest.now.log.now newest.now.stops.now) gtin.now newest.now.place serial.now
             (shelf_by newest.now.log.now self.old) (shelf_by newest.now.log.now self.new) }
         ensures first { result ≡ comes_first newest.now.log.now newest.now.place (kept_in (shelf_by newest.now.log.now self.old) serial.now).birth }
     {
-        let spot = self.slots.find(&self.names(newest.log), serial);
+        let spot = self.slots.find(newest.log, serial);
         let is_first = match spot.slot() {
             Some(Slot::Own(number)) => {
                 let track = &mut self.tracks[number as usize];
@@ -231,7 +217,7 @@ impl Shelf {
         ensures effect { IfOk result (λ effect. effect ≡ newest_effect newest.now.log.now newest.now.place) }
         ensures err { OnErr result (AreShelfOf (take newest.now.place newest.now.log.now) pack.now.gtin self.new) }
     {
-        let spot = self.slots.find(&self.names(newest.log), &pack.serial);
+        let spot = self.slots.find(newest.log, &pack.serial);
         let birth = match spot.slot() {
             Some(Slot::Own(number)) => {
                 let track = &mut self.tracks[number as usize];
@@ -240,19 +226,12 @@ impl Shelf {
             Some(Slot::Made { place, .. }) => Some(place),
             None => None,
         };
-        let number = self.tracks.len();
-        if number > u32::MAX as usize {
-            return Err(AllocError);
-        }
-        self.slots.reserve(1)?;
-        self.names.reserve(1)?;
         self.tracks.reserve(1)?;
         let mut track = Track::new(alloc, birth);
         let effect = track.add_status(newest, pack)?;
+        let number = self.slots.put_own(spot, &pack.serial)?;
         // All room is got: nothing fails from here on.
-        self.slots.put(spot, Slot::Own(number as u32));
-        self.names.push_reserved(pack.serial.copy());
-        self.listing.note(newest.log, birth, number as u32);
+        self.listing.note(newest.log, birth, number);
         self.tracks.push_reserved(track);
         Ok(effect)
     }

@@ -2,7 +2,7 @@
 //! the packs that have a track: so a pack that has no status takes some 20 bytes here.
 
 ghost use Rattle.std.specs.Prelude.{◌≡◌, ◌<◌, ◌≤◌, ◌+◌};
-ghost use Rattle.mv_repository.specs.Clauses.{AllByRecursion, AreSlots, IfSome, bytes_eq, get_or, no_slot, YieldsFirstRef, hashes_with, item_count, option_map, IsNamed, IsSpot, OnOk, [], length, map, entry_at, serial_hash, serial_of, serials_uploaded, slots_with};
+ghost use Rattle.mv_repository.specs.Clauses.{AreSlots, AnEntry, IfOk, IfSome, List, Own, bytes_eq, get_or, keyed, keys_of, no_slot, no_slots, YieldsFirstRef, item_count, option_map, IsNamed, IsSpot, IsWritten, OnErr, OnOk, [], length, entry_at, serial_of, serials_uploaded, ℕ};
 
 use crate::LogEntry;
 use crate::entry::message_at;
@@ -51,28 +51,6 @@ impl Spot {
     }
 }
 
-/// Where the serial numbers of slots stand.
-#[derive(Clone, Copy)]
-pub(crate) struct Names<'a> {
-    /// The log, whose uploads name packs.
-    pub log: &'a [LogEntry],
-    /// The serial numbers of the packs that have a track, by the numbers of these.
-    pub own: &'a [Serial],
-}
-
-impl<'a> Names<'a> {
-    /// The serial number of the pack that a slot stands for.
-    pub fn of(&self, slot: Slot) -> &'a Serial
-        requires { IsNamed self.now.log.now self.now.own.now slot }
-        ensures { result.now ≡ serial_of self.now.log.now self.now.own.now slot }
-    {
-        match slot {
-            Slot::Made { place, index } => &uploaded(self.log, place)[index as usize],
-            Slot::Own(number) => &self.own[number as usize],
-        }
-    }
-}
-
 /// The serial numbers that the entry at a place uploads.
 fn uploaded(log: &[LogEntry], place: u32) -> &[Serial]
     ensures { result.now ≡ serials_uploaded (entry_at log.now place).entry.item }
@@ -83,11 +61,15 @@ fn uploaded(log: &[LogEntry], place: u32) -> &[Serial]
     }
 }
 
-/// The hash of a serial number.
-fn serial_hash(serial: &Serial) -> u32
-    ensures { result ≡ serial_hash serial.now }
+/// The serial number of the pack that a slot stands for, which stands in the log, or among those of the packs that have a track.
+fn serial_of<'a>(log: &'a [LogEntry], names: &'a [Serial], slot: Slot) -> &'a Serial
+    requires { IsNamed log.now names.now slot }
+    ensures { result.now ≡ serial_of log.now names.now slot }
 {
-    hash_of(serial)
+    match slot {
+        Slot::Made { place, index } => &uploaded(log, place)[index as usize],
+        Slot::Own(number) => &names[number as usize],
+    }
 }
 
 /// The slots of the packs of a product.
@@ -97,15 +79,20 @@ pub(crate) struct Slots {
     index: HashIndex,
     /// The slots, in the order in which the packs came first.
     slots: Vec<Slot>,
+    /// The serial numbers of the packs that have a track, by the numbers of these.
+    names: Vec<Serial>,
 }
 
 impl Model for Slots {
     ghost use Rattle.std.specs.Prelude.{◌≡◌, ◌-◌, length, min, vec_capacity};
-    ghost use Rattle.mv_repository.specs.inside.Slots.{SlotTable};
+    ghost use Rattle.mv_repository.specs.inside.Slots.{RoomySlots};
 
-    ghost Value = { SlotTable };
+    ghost Value = { RoomySlots };
 
-    ghost view = { λ a. record { hashes = a.index.hashes; slots = a.slots.items; room = min a.index.room (vec_capacity a.slots - length a.slots.items) } };
+    ghost view = { λ a. record {
+      table = record { hashes = a.index.hashes; slots = a.slots.items; names = a.names.items };
+      room = min a.index.room (vec_capacity a.slots - length a.slots.items);
+    } };
 
     ghost invariant = { λ a. length a.index.hashes ≡ length a.slots.items };
 }
@@ -113,44 +100,47 @@ impl Model for Slots {
 impl Slots {
     /// No slot. It takes no memory.
     pub fn new(alloc: Global) -> Slots
-        ensures { result ≡ record { hashes = []; slots = []; room = 0 } }
+        ensures { result ≡ record { table = no_slots; room = 0 } }
     {
         Slots {
             index: HashIndex::new(alloc),
             slots: Vec::new(alloc),
+            names: Vec::new(alloc),
         }
     }
 
     /// The slots, in the order in which the packs came first.
     pub fn as_slice(&self) -> &[Slot]
-        ensures { result.now ≡ self.now.slots }
+        ensures { result.now ≡ self.now.table.slots }
     {
         self.slots.as_slice()
     }
 
     /// The serial numbers of the packs, in the order in which each came first.
-    pub fn serials<'a>(&'a self, names: Names<'a>) -> ProductSerials<'a>
-        requires { AllByRecursion (IsNamed names.log.now names.own.now) self.now.slots }
-        ensures { result ≡ map (serial_of names.entry.log.now names.entry.own.now) self.now.slots }
+    pub fn serials<'a>(&'a self, log: &'a [LogEntry]) -> ProductSerials<'a>
+        requires { AreSlots log.now self.now.table }
+        ensures { result ≡ keys_of (keyed log.now self.now.table.names self.now.table.slots) }
     {
         ProductSerials {
-            names,
+            log,
+            names: self.names.as_slice(),
             slots: self.slots.as_slice(),
         }
     }
 
     /// Where a serial number stands.
-    pub fn find(&self, names: &Names<'_>, serial: &Serial) -> Spot
-        requires { AreSlots names.now.log.now names.now.own.now self.now }
-        ensures { IsSpot names.now.log.now names.now.own.now self.now serial.now result }
+    pub fn find(&self, log: &[LogEntry], serial: &Serial) -> Spot
+        requires { AreSlots log.now self.now.table }
+        ensures { IsSpot log.now self.now.table serial.now result }
     {
-        let hash = serial_hash(serial);
+        let hash = hash_of(serial);
         let slots = self.slots.as_slice();
+        let names = self.names.as_slice();
         let is_it = |number: usize| -> bool
             requires within { number < length slots.now }
-            requires named { IsNamed names.now.log.now names.now.own.now (get_or slots.now number no_slot) }
-            ensures { result ≡ bytes_eq (serial_of names.entry.now.log.now names.entry.now.own.now (get_or slots.entry.now number no_slot)) serial.entry.now }
-        { names.of(slots[number]) == serial };
+            requires named { IsNamed log.now names.now (get_or slots.now number no_slot) }
+            ensures { result ≡ bytes_eq (serial_of log.entry.now names.entry.now (get_or slots.entry.now number no_slot)) serial.entry.now }
+        { serial_of(log, names, slots[number]) == serial };
         let found = match self.index.find(hash, is_it) {
             Some(number) => Some((number, slots[number])),
             None => None,
@@ -158,22 +148,22 @@ impl Slots {
         Spot { hash, found }
     }
 
-    /// Gets room for more packs. Where memory is refused nothing has changed.
+    /// Gets room for more packs. Where memory is refused nothing has changed but the room.
     pub fn reserve(&mut self, additional: usize) -> Result<(), AllocError>
-        ensures hashes { self.new.hashes ≡ self.old.hashes }
-        ensures slots { self.new.slots ≡ self.old.slots }
+        ensures table { self.new.table ≡ self.old.table }
         ensures room { OnOk result (additional ≤ self.new.room) }
     {
         self.index.reserve(additional)?;
         self.slots.reserve(additional)
     }
 
-    /// Writes the slot of a pack.
+    /// Writes the slot of a pack where its serial number stands, or behind all.
     pub fn put(&mut self, spot: Spot, slot: Slot)
         requires room { 0 < self.old.room }
-        requires number { IfSome spot.found (λ found. found.0 < length self.old.slots) }
-        ensures slots { self.new.slots ≡ slots_with spot.found slot self.old.slots }
-        ensures hashes { self.new.hashes ≡ hashes_with spot.found spot.hash self.old.hashes }
+        requires number { IfSome spot.found (λ found. found.0 < length self.old.table.slots) }
+        ensures names { self.new.table.names ≡ self.old.table.names }
+        ensures written { (log : List AnEntry) (serial : List ℕ) → AreSlots log self.old.table → IsSpot log self.old.table serial spot
+            → IsNamed log self.old.table.names slot → serial_of log self.old.table.names slot ≡ serial → IsWritten log self.old.table self.new.table serial slot }
         ensures room { self.old.room ≤ self.new.room + 1 }
     {
         match spot.found {
@@ -184,15 +174,37 @@ impl Slots {
             }
         }
     }
+
+    /// Keeps the serial number of a pack, and gives the pack the next number of a track. Where memory is refused nothing has changed but the
+    /// room; so beyond 2^32 such packs.
+    pub fn put_own(&mut self, spot: Spot, serial: &Serial) -> Result<u32, AllocError>
+        requires { IfSome spot.found (λ found. found.0 < length self.old.table.slots) }
+        ensures number { IfOk result (λ number. number ≡ length self.old.table.names) }
+        ensures names { OnOk result (length self.new.table.names ≡ length self.old.table.names + 1) }
+        ensures written { OnOk result ((log : List AnEntry) → AreSlots log self.old.table → IsSpot log self.old.table serial.now spot
+            → IsWritten log self.old.table self.new.table serial.now (Own (length self.old.table.names))) }
+        ensures err { OnErr result (self.new.table ≡ self.old.table) }
+    {
+        let number = self.names.len();
+        if number > u32::MAX as usize {
+            return Err(AllocError);
+        }
+        self.reserve(1)?;
+        self.names.push(serial.copy())?;
+        self.put(spot, Slot::Own(number as u32));
+        Ok(number as u32)
+    }
 }
 
 /// The serial numbers of a product, in the order in which each came first; contracts see those that are still to come.
 #[derive(Drop)]
 pub struct ProductSerials<'a> {
-    /// Where they stand.
-    pub(crate) names: Names<'a>,
+    /// The log, whose uploads name packs.
+    log: &'a [LogEntry],
+    /// The serial numbers of the packs that have a track.
+    names: &'a [Serial],
     /// The slots of those that are still to come.
-    pub(crate) slots: &'a [Slot],
+    slots: &'a [Slot],
 }
 
 impl<'a> Model for ProductSerials<'a> {
@@ -200,9 +212,9 @@ impl<'a> Model for ProductSerials<'a> {
 
     ghost Value = { List (List ℕ) };
 
-    ghost view = { λ it. map (serial_of it.names.log.now it.names.own.now) it.slots.now };
+    ghost view = { λ it. map (serial_of it.log.now it.names.now) it.slots.now };
 
-    ghost invariant = { λ it. AllByRecursion (IsNamed it.names.log.now it.names.own.now) it.slots.now };
+    ghost invariant = { λ it. AllByRecursion (IsNamed it.log.now it.names.now) it.slots.now };
 }
 
 impl<'a> ProductSerials<'a> {
@@ -211,7 +223,8 @@ impl<'a> ProductSerials<'a> {
         ensures { result ≡ [] }
     {
         ProductSerials {
-            names: Names { log: &[], own: &[] },
+            log: &[],
+            names: &[],
             slots: &[],
         }
     }
@@ -227,6 +240,6 @@ impl<'a> Iterator for ProductSerials<'a> {
     fn next(&mut self) -> Option<&'a Serial> {
         let (slot, rest) = self.slots.split_first()?;
         self.slots = rest;
-        Some(self.names.of(*slot))
+        Some(serial_of(self.log, self.names, *slot))
     }
 }

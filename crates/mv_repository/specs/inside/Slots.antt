@@ -1,9 +1,9 @@
 -- What stands for each pack of a product. Its serial number stands elsewhere: in the upload that made it, or among the names of the packs
 -- that have a track.
-use Rattle.std.specs.Prelude.{◌≡◌, ◌<◌, ◌++◌, ◌∷◌, set}
+use Rattle.std.specs.Prelude.{◌≡◌, ◌<◌, ◌∷◌}
 use Rattle.mv_index.specs.Hashes.{short_hash}
 use Rattle.mv_pack.specs.Code.{filled_up}
-use Rattle.mv_repository.specs.Words.{ℕ, List, [], length, get_or, drop, take, map, Option, Some, None, bytes_eq, keys_of, lookup, option_map, AllByRecursion, IsDistinct, IfSome, Upload, Item, Carried, LogEntry, Slot, Made, Own}
+use Rattle.mv_repository.specs.Words.{ℕ, List, [], length, get_or, drop, insert_entry, take, map, bytes_eq, keys_of, lookup, option_map, AllByRecursion, IsDistinct, IfSome, Upload, Item, Carried, LogEntry, Slot, Made, Own}
 use Rattle.mv_repository.specs.Bearing.{entry_at}
 use Rattle.mv_repository.specs.declared.slots.Spot.{Spot}
 
@@ -34,29 +34,34 @@ keyed log names slots = map (λ slot. (serial_of log names slot, slot)) slots
 abbrev pub serial_hash : List ℕ → ℕ
 serial_hash serial = short_hash (take 16 (filled_up serial) ∷ drop 16 (filled_up serial) ∷ [])
 
--- what is kept of slots: each has the hash of its serial number
+-- what is kept of slots: each has the hash of its serial number; and the serial numbers of the packs that have a track
 pub record SlotTable : Type 0 where
   pub hashes : List ℕ
   pub slots : List Slot
-  pub room : ℕ  -- for so many packs more
+  pub names : List (List ℕ)
+
+-- no pack
+abbrev pub no_slots : SlotTable
+no_slots = record { hashes = []; slots = []; names = [] }
+
+-- the slots with room for so many packs more
+pub record RoomySlots : Type 0 where
+  pub table : SlotTable
+  pub room : ℕ
 
 -- the slots stand for packs by a log, each for one
-pub record AreSlots (log : List LogEntry) (names : List (List ℕ)) (table : SlotTable) : Type 0 where
-  pub hashes : table.hashes ≡ map serial_hash (keys_of (keyed log names table.slots))
-  pub named : AllByRecursion (IsNamed log names) table.slots
-  pub distinct : IsDistinct bytes_eq (keys_of (keyed log names table.slots))
+pub record AreSlots (log : List LogEntry) (table : SlotTable) : Type 0 where
+  pub hashes : table.hashes ≡ map serial_hash (keys_of (keyed log table.names table.slots))
+  pub named : AllByRecursion (IsNamed log table.names) table.slots
+  pub distinct : IsDistinct bytes_eq (keys_of (keyed log table.names table.slots))
 
 -- where a serial number stands among the slots, or would stand
-pub record IsSpot (log : List LogEntry) (names : List (List ℕ)) (table : SlotTable) (serial : List ℕ) (spot : Spot) : Type 0 where
+pub record IsSpot (log : List LogEntry) (table : SlotTable) (serial : List ℕ) (spot : Spot) : Type 0 where
   pub hash : spot.hash ≡ serial_hash serial
-  pub slot : option_map (λ found. found.1) spot.found ≡ lookup (bytes_eq serial) (keyed log names table.slots)
-  pub number : IfSome spot.found (λ found. (found.0 < length table.slots) × (serial_of log names (get_or table.slots found.0 no_slot) ≡ serial))
+  pub slot : option_map (λ found. found.1) spot.found ≡ lookup (bytes_eq serial) (keyed log table.names table.slots)
+  pub number : IfSome spot.found (λ found. (found.0 < length table.slots) × (serial_of log table.names (get_or table.slots found.0 no_slot) ≡ serial))
 
--- the slots once one is written there, and the hashes
-abbrev pub slots_with : Option (ℕ × Slot) → Slot → List Slot → List Slot
-slots_with None slot slots = slots ++ slot ∷ []
-slots_with (Some found) slot slots = set slots found.0 slot
-
-abbrev pub hashes_with : Option (ℕ × Slot) → ℕ → List ℕ → List ℕ
-hashes_with None hash hashes = hashes ++ hash ∷ []
-hashes_with (Some found) hash hashes = hashes
+-- a slot was written under a serial number
+pub record IsWritten (log : List LogEntry) (old new : SlotTable) (serial : List ℕ) (slot : Slot) : Type 0 where
+  pub are : AreSlots log new
+  pub entries : keyed log new.names new.slots ≡ insert_entry bytes_eq (keyed log old.names old.slots) serial slot

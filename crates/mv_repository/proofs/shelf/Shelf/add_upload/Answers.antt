@@ -7,10 +7,10 @@ pub loop-index-init : goal.loop-index-init
 loop-index-init c =
     let whole = c.args.newest.now.log.now in
     let place = c.args.newest.now.place in
-    let old : ShelfParts = record { slots = c.self.inside.slots; names = c.self.inside.names.items; tracks = c.self.inside.tracks.items; listing = c.self.inside.listing } in
+    let old : ShelfParts = record { slots = c.self.inside.slots; tracks = c.self.inside.tracks.items; listing = c.self.inside.listing } in
     let room : ShelfParts = record old { slots = c.reserve.new.self } in
     let longer = shelf-longer whole place c.args.gtin.now room
-    (same-shelf (take place whole) c.args.gtin.now old room c.reserve.ensures.hashes c.reserve.ensures.slots refl refl refl (subst (AreShelfOf (take place whole) c.args.gtin.now) (sym c.self.view_is) c.requires.shelf)) in
+    (same-shelf (take place whole) c.args.gtin.now old room c.reserve.ensures.table refl refl (subst (AreShelfOf (take place whole) c.args.gtin.now) (sym c.self.view_is) c.requires.shelf)) in
     record { room = omega (arith, c.in_ok-reserve.ensures.room); slots = longer.0; packs = longer.1.packs; keys = longer.1.serials; new = refl; least = omega arith }
 
 pub put_upload-is_first-requires-clause-named : goal.put_upload-is_first-requires-clause-named

@@ -1,26 +1,25 @@
 -- The pack has a slot, and the other packs keep theirs.
 use Rattle.std.specs.Prelude.{◌≡◌, ◌<◌}
-use Rattle.mv_repository.proofs.Lemmas.{AreSlots, HasNoTrack, IfSome, IsAgain, IsSpot, Kept, List, LogEntry, Made, Option, Own, ShelfParts, Slot, Some, [], ap, arith, bytes_eq, comes_first, earlier_place, get_or, get_or_default, get_or_from_slice_get, hashes_with, keyed, kept_by, kept_in, batch_at, false, length, lists, lookup, nothing_kept, option_and_then, own-there, put-first, put-keyed, put-later, put-own, put-slots, serial_of, serials_uploaded, shelf_by, slice_get_within, stops_in, subst, sym, text-self, true, ℕ, ◌∙◌}
+use Rattle.mv_repository.proofs.Lemmas.{AreSlots, HasNoTrack, IfSome, IsAgain, IsWritten, Kept, List, LogEntry, Made, Option, Own, ShelfParts, SlotTable, Some, [], ap, arith, bytes_eq, comes_first, earlier_place, false, get_or, get_or_default, get_or_from_slice_get, keyed, kept_by, kept_in, batch_at, length, lists, lookup, nothing_kept, option_and_then, own-there, put-first, put-later, put-own, serials_uploaded, shelf_by, slice_get_within, stops_in, subst, sym, text-self, true, ℕ, ◌∙◌}
 use Rattle.mv_repository.proofs.Words.{IsPut, IsTrack, entry_at, set}
 use Rattle.mv_repository.proofs.shelf.Shelf.put_upload.Goals.{in-Some-Made, in-None}
 use Rattle.mv_repository.proofs.shelf.Shelf.put_upload.Goals as goal
 
 pub index_mut-track-requires : goal.index_mut-track-requires
 index_mut-track-requires c =
-    let log = c.args.newest.now.log.now in
-    let names = c.self.inside.names.items in
-    let are : AreSlots log names c.self.inside.slots = subst (λ (parts : ShelfParts). AreSlots log parts.names parts.slots) (sym c.self.view_is) c.requires.slots in
-    let found : lookup (bytes_eq c.args.serial.now) (keyed log names c.self.inside.slots.slots) ≡ Some (Own c.in-Some-Own.number) = grind arith in
-    omega (arith, (own-there log names c.args.serial.now c.in-Some-Own.number c.self.inside.slots.slots are.named found).0, c.self.invariant)
+    let table = c.self.inside.slots.table in
+    let are : AreSlots c.args.newest.now.log.now table = subst (λ (parts : ShelfParts). AreSlots c.args.newest.now.log.now parts.slots.table) (sym c.self.view_is) c.requires.slots in
+    let found : lookup (bytes_eq c.args.serial.now) (keyed c.args.newest.now.log.now table.names table.slots) ≡ Some (Own c.in-Some-Own.number) = grind arith in
+    omega (arith, (own-there c.args.newest.now.log.now table.names c.args.serial.now c.in-Some-Own.number table.slots are.named found).0, c.self.invariant)
 
 pub add_upload-is_first-requires : goal.add_upload-is_first-requires
 add_upload-is_first-requires c =
     let log = c.args.newest.now.log.now in
-    let names = c.self.inside.names.items in
+    let table = c.self.inside.slots.table in
     let tracks = c.self.inside.tracks.items in
-    let are : AreSlots log names c.self.inside.slots = subst (λ (parts : ShelfParts). AreSlots log parts.names parts.slots) (sym c.self.view_is) c.requires.slots in
-    let found : lookup (bytes_eq c.args.serial.now) (keyed log names c.self.inside.slots.slots) ≡ Some (Own c.in-Some-Own.number) = grind arith in
-    let within : c.in-Some-Own.number < length tracks = omega (arith, (own-there log names c.args.serial.now c.in-Some-Own.number c.self.inside.slots.slots are.named found).0, c.self.invariant) in
+    let are : AreSlots log table = subst (λ (parts : ShelfParts). AreSlots log parts.slots.table) (sym c.self.view_is) c.requires.slots in
+    let found : lookup (bytes_eq c.args.serial.now) (keyed log table.names table.slots) ≡ Some (Own c.in-Some-Own.number) = grind arith in
+    let within : c.in-Some-Own.number < length tracks = omega (arith, (own-there log table.names c.args.serial.now c.in-Some-Own.number table.slots are.named found).0, c.self.invariant) in
     subst (IsTrack log (stops_in log c.args.newest.now.stops.now) c.args.gtin.now)
     (ap (kept_by tracks) found ∙ get_or_default tracks c.in-Some-Own.number nothing_kept c.index_mut-track.result.now within ∙ sym c.index_mut-track.ensures.value)
     (subst (λ (parts : ShelfParts). IsTrack log (stops_in log c.args.newest.now.stops.now) c.args.gtin.now (kept_in (shelf_by log parts) c.args.serial.now)) (sym c.self.view_is) c.requires.worked)
@@ -29,23 +28,21 @@ module _ (c : goal.After-note) where
   abbrev log : List LogEntry
   log = c.args.newest.now.log.now
 
-  abbrev names : List (List ℕ)
-  names = c.self.inside.names.items
+  abbrev table : SlotTable
+  table = c.self.inside.slots.table
 
   abbrev tracks : List Kept
   tracks = c.self.inside.tracks.items
 
-  abbrev slots : List (List ℕ × Slot)
-  slots = keyed log names c.self.inside.slots.slots
+  are : AreSlots log table
+  are = subst (λ (parts : ShelfParts). AreSlots log parts.slots.table) (sym c.self.view_is) c.requires.slots
 
-  are : AreSlots log names c.self.inside.slots
-  are = subst (λ (parts : ShelfParts). AreSlots log parts.names parts.slots) (sym c.self.view_is) c.requires.slots
-
-  found : lookup (bytes_eq c.args.serial.now) slots ≡ Some (Own c.in-Some-Own.number)
+  found : lookup (bytes_eq c.args.serial.now) (keyed log table.names table.slots) ≡ Some (Own c.in-Some-Own.number)
   found = grind arith
 
-  own : (serial : List ℕ) → lookup (bytes_eq serial) slots ≡ Some (Own c.in-Some-Own.number) → (c.in-Some-Own.number < length names) × (serial ≡ get_or names c.in-Some-Own.number [])
-  own serial e = own-there log names serial c.in-Some-Own.number c.self.inside.slots.slots are.named e
+  own : (serial : List ℕ) → lookup (bytes_eq serial) (keyed log table.names table.slots) ≡ Some (Own c.in-Some-Own.number)
+      → (c.in-Some-Own.number < length table.names) × (serial ≡ get_or table.names c.in-Some-Own.number [])
+  own serial e = own-there log table.names serial c.in-Some-Own.number table.slots are.named e
 
   within : c.in-Some-Own.number < length tracks
   within = omega (arith, (own c.args.serial.now found).0, c.self.invariant)
@@ -60,9 +57,10 @@ pub returns-in-Some-Own-clause-put : goal.returns-in-Some-Own-clause-put
 returns-in-Some-Own-clause-put c =
     let stops = stops_in (log c) c.args.newest.now.stops.now in
     let serial = c.args.serial.now in
+    let slots = keyed (log c) (table c).names (table c).slots in
     subst (λ (parts : ShelfParts). IsPut (log c) stops c.args.gtin.now c.args.newest.now.place serial (shelf_by (log c) parts)
-    (record { slots = slots c; tracks = set (tracks c) c.in-Some-Own.number c.add_upload-is_first.new.self; listing = c.note.new.self })) c.self.view_is
-    (put-own (log c) stops c.args.gtin.now c.args.newest.now.place serial (slots c) (tracks c) c.self.inside.listing c.in-Some-Own.number c.add_upload-is_first.new.self c.note.new.self (found c) (within c)
+    (record { slots = slots; tracks = set (tracks c) c.in-Some-Own.number c.add_upload-is_first.new.self; listing = c.note.new.self })) c.self.view_is
+    (put-own (log c) stops c.args.gtin.now c.args.newest.now.place serial slots (tracks c) c.self.inside.listing c.in-Some-Own.number c.add_upload-is_first.new.self c.note.new.self (found c) (within c)
     (λ other e. ap (bytes_eq serial) ((own c other e).1 ∙ sym (own c serial (found c)).1) ∙ text-self serial)
     (subst (λ (k : Kept). IsAgain (log c) stops c.args.gtin.now (earlier_place (log c) c.args.newest.now.place k.birth) k c.add_upload-is_first.new.self) (sym (track c)) c.add_upload-is_first.ensures.again)
     c.note.ensures.kept
@@ -77,53 +75,37 @@ returns-in-Some-Own-clause-first c =
     ∙ ap (λ (k : Kept). comes_first (log c) c.args.newest.now.place k.birth) (sym (ap (kept_by (tracks c)) (found c) ∙ track c))
     ∙ ap (λ (parts : ShelfParts). comes_first (log c) c.args.newest.now.place (kept_in (shelf_by (log c) parts) c.args.serial.now).birth) c.self.view_is
 
-module _ (c : goal.After-put) where
-  abbrev log-2 : List LogEntry
-  log-2 = c.args.newest.now.log.now
-
-  abbrev names-2 : List (List ℕ)
-  names-2 = c.self.inside.names.items
-
-  are-2 : AreSlots log-2 names-2 c.self.inside.slots
-  are-2 = subst (λ (parts : ShelfParts). AreSlots log-2 parts.names parts.slots) (sym c.self.view_is) c.requires.slots
-
-  spot : IsSpot log-2 names-2 c.self.inside.slots c.args.serial.now c.find-spot.result
-  spot = subst (λ (one : List LogEntry). IsSpot one names-2 c.self.inside.slots c.args.serial.now c.find-spot.result) c.names.ensures.log
-      (subst (λ (one : List (List ℕ)). IsSpot c.names.result.log.now one c.self.inside.slots c.args.serial.now c.find-spot.result) (c.names.ensures.own ∙ ap (λ (parts : ShelfParts). parts.names) (sym c.self.view_is)) c.find-spot.ensures)
-
-  named : serial_of log-2 names-2 (Made c.args.index c.args.newest.now.place) ≡ c.args.serial.now
-  named = get_or_from_slice_get (serials_uploaded (entry_at log-2 c.args.newest.now.place).entry.item) c.args.index c.args.serial.now [] c.requires.named
+-- the slot of the upload is written under the serial number
+written : (c : goal.After-put) → IsWritten c.args.newest.now.log.now c.self.inside.slots.table c.put.new.self.table c.args.serial.now (Made c.args.index c.args.newest.now.place)
+written c =
+    let log = c.args.newest.now.log.now in
+    let named = serials_uploaded (entry_at log c.args.newest.now.place).entry.item in
+    c.put.ensures.written log c.args.serial.now (subst (λ (parts : ShelfParts). AreSlots log parts.slots.table) (sym c.self.view_is) c.requires.slots) c.find-spot.ensures
+    (slice_get_within named c.args.index c.args.serial.now c.requires.named) (get_or_from_slice_get named c.args.index c.args.serial.now [] c.requires.named)
 
 pub returns-then-is_first-clause-slots : goal.returns-then-is_first-clause-slots
-returns-then-is_first-clause-slots c =
-    let old = c.self.inside.slots in
-    let new : Slot = Made c.args.index c.args.newest.now.place in
-    subst (λ (hashes : List ℕ). AreSlots (log-2 c) (names-2 c) (record { hashes = hashes; slots = c.put.new.self.slots; room = c.put.new.self.room })) (sym c.put.ensures.hashes)
-    (subst (λ (slots : List Slot). AreSlots (log-2 c) (names-2 c) (record { hashes = hashes_with c.find-spot.result.found c.find-spot.result.hash old.hashes; slots = slots; room = c.put.new.self.room })) (sym c.put.ensures.slots)
-    (put-slots (log-2 c) (names-2 c) old (are-2 c) c.args.serial.now c.find-spot.result (spot c) new (named c) c.put.new.self.room
-    (slice_get_within (serials_uploaded (entry_at (log-2 c) c.args.newest.now.place).entry.item) c.args.index c.args.serial.now c.requires.named)))
+returns-then-is_first-clause-slots c = (written c).are
 
 pub returns-then-is_first-clause-put : goal.returns-then-is_first-clause-put
 returns-then-is_first-clause-put c =
-    let log = log-2 c in
-    let names = names-2 c in
-    let old = c.self.inside.slots in
+    let log = c.args.newest.now.log.now in
     let serial = c.args.serial.now in
     let tracks = c.self.inside.tracks.items in
-    let slot : c.slot.result ≡ lookup (bytes_eq serial) (keyed log names old.slots) = c.slot.ensures ∙ (spot c).slot in
-    let none : HasNoTrack (lookup (bytes_eq serial) (keyed log names old.slots)) = elim c.match-slot.branch [ in-Some-Made w ↦ subst HasNoTrack (ap Some (sym w.in-Some-Made.field-0-is) ∙ sym w.in-Some-Made.is ∙ slot) tt | in-None w ↦ subst HasNoTrack (sym w.in-None.is ∙ slot) tt ] in
-    let first : comes_first log c.args.newest.now.place (kept_by tracks (lookup (bytes_eq serial) (keyed log names old.slots))).birth ≡ true = elim c.match-slot.branch [ in-Some-Made w ↦ grind arith | in-None w ↦ grind arith ] in
+    let slots = keyed log c.self.inside.slots.table.names c.self.inside.slots.table.slots in
+    let slot : c.slot.result ≡ lookup (bytes_eq serial) slots = c.slot.ensures ∙ c.find-spot.ensures.slot in
+    let none : HasNoTrack (lookup (bytes_eq serial) slots) = elim c.match-slot.branch [ in-Some-Made w ↦ subst HasNoTrack (ap Some (sym w.in-Some-Made.field-0-is) ∙ sym w.in-Some-Made.is ∙ slot) tt | in-None w ↦ subst HasNoTrack (sym w.in-None.is ∙ slot) tt ] in
+    let first : comes_first log c.args.newest.now.place (kept_by tracks (lookup (bytes_eq serial) slots)).birth ≡ true = elim c.match-slot.branch [ in-Some-Made w ↦ grind arith | in-None w ↦ grind arith ] in
     subst (λ (parts : ShelfParts). IsPut log (stops_in log c.args.newest.now.stops.now) c.args.gtin.now c.args.newest.now.place serial (shelf_by log parts)
-    (record { slots = keyed log names c.put.new.self.slots; tracks = tracks; listing = c.self.inside.listing })) c.self.view_is
-    (put-first log (stops_in log c.args.newest.now.stops.now) c.args.gtin.now c.args.newest.now.place serial (keyed log names old.slots) tracks c.self.inside.listing c.args.index (keyed log names c.put.new.self.slots)
-    (ap (keyed log names) c.put.ensures.slots ∙ put-keyed log names old (are-2 c) serial c.find-spot.result (spot c) (Made c.args.index c.args.newest.now.place) (named c)) none first)
+    (record { slots = keyed log c.put.new.self.table.names c.put.new.self.table.slots; tracks = tracks; listing = c.self.inside.listing })) c.self.view_is
+    (put-first log (stops_in log c.args.newest.now.stops.now) c.args.gtin.now c.args.newest.now.place serial slots tracks c.self.inside.listing c.args.index _ (written c).entries none first)
 
 pub returns-else-is_first-clause-put : goal.returns-else-is_first-clause-put
 returns-else-is_first-clause-put c =
     let log = c.args.newest.now.log.now in
     let parts = c.args.self.now in
     let serial = c.args.serial.now in
-    let spot : c.slot.result ≡ lookup (bytes_eq serial) (keyed log parts.names parts.slots.slots) = grind arith in
-    let none : HasNoTrack (lookup (bytes_eq serial) (keyed log parts.names parts.slots.slots)) = elim c.match-slot.branch [ in-Some-Made w ↦ subst HasNoTrack (ap Some (sym w.in-Some-Made.field-0-is) ∙ sym w.in-Some-Made.is ∙ spot) tt | in-None w ↦ subst HasNoTrack (sym w.in-None.is ∙ spot) tt ] in
+    let slots = keyed log parts.slots.table.names parts.slots.table.slots in
+    let spot : c.slot.result ≡ lookup (bytes_eq serial) slots = grind arith in
+    let none : HasNoTrack (lookup (bytes_eq serial) slots) = elim c.match-slot.branch [ in-Some-Made w ↦ subst HasNoTrack (ap Some (sym w.in-Some-Made.field-0-is) ∙ sym w.in-Some-Made.is ∙ spot) tt | in-None w ↦ subst HasNoTrack (sym w.in-None.is ∙ spot) tt ] in
     let first : comes_first log c.args.newest.now.place (kept_in (shelf_by log parts) serial).birth ≡ false = elim c.match-slot.branch [ in-Some-Made w ↦ grind arith | in-None w ↦ grind arith ] in
-    put-later log (stops_in log c.args.newest.now.stops.now) c.args.gtin.now c.args.newest.now.place serial (keyed log parts.names parts.slots.slots) parts.tracks parts.listing none first c.requires.worked
+    put-later log (stops_in log c.args.newest.now.stops.now) c.args.gtin.now c.args.newest.now.place serial slots parts.tracks parts.listing none first c.requires.worked

@@ -7,7 +7,7 @@ returns c =
     let whole = c.args.newest.now.log.now in
     let place = c.args.newest.now.place in
     let stop = c.args.stop.now in
-    let old : ShelfParts = record { slots = c.self.inside.slots; names = c.self.inside.names.items; tracks = c.self.inside.tracks.items; listing = c.self.inside.listing } in
+    let old : ShelfParts = record { slots = c.self.inside.slots; tracks = c.self.inside.tracks.items; listing = c.self.inside.listing } in
     let longer = shelf-longer whole place (stopped_product stop) old (subst (AreShelfOf (take place whole) (stopped_product stop)) (sym c.self.view_is) c.requires.shelf) in
     record {
       slots = longer.0;

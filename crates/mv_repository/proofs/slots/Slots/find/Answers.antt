@@ -1,26 +1,23 @@
 -- Of those with its hash the index finds the one that has the serial number.
-use Rattle.std.specs.Prelude.{◌≡◌, ◌<◌}
-use Rattle.mv_repository.proofs.Lemmas.{List, Slot, SlotTable, ap, arith, bytes_eq, false, get_or, length, no_slot, same_text, serial_of, spot-none, spot-there, subst, sym, ℕ, ◌∙◌}
+use Rattle.std.specs.Prelude.{◌≡◌}
+use Rattle.mv_repository.proofs.Lemmas.{AreSlots, IsSpot, List, None, RoomySlots, Slot, SlotTable, Some, ap, arith, bytes_eq, get_or, no_slot, same_text, serial_of, spot-none, spot-there, subst, sym, true, ◌∙◌}
 use Rattle.mv_repository.proofs.slots.Slots.find.Goals as goal
 
 pub returns-in-Some : goal.returns-in-Some
 returns-in-Some c =
-    let log = c.args.names.now.log.now in
-    let own = c.args.names.now.own.now in
-    let number = c.in-Some.number in
-    let same : c.as_slice-slots.result.now ≡ c.args.self.now.slots = c.as_slice-slots.ensures.value ∙ ap (λ (table : SlotTable). table.slots) c.self.view_is in
-    let within : number < length c.args.self.now.slots = omega (arith, c.in-Some.ensures.within, c.self.invariant, ap (λ (table : SlotTable). length table.slots) c.self.view_is) in
-    let there : serial_of log own (get_or c.args.self.now.slots number no_slot) ≡ c.args.serial.now =
-    subst (λ (slots : List Slot). serial_of log own (get_or slots number no_slot) ≡ c.args.serial.now) same
-    (same_text (serial_of log own (get_or c.as_slice-slots.result.now number no_slot)) c.args.serial.now c.in-Some.ensures.found) in
-    spot-there log own c.args.self.now c.requires c.args.serial.now c.serial_hash-hash.result number _ c.serial_hash-hash.ensures within there (ap (λ (slots : List Slot). get_or slots number no_slot) same)
+    let log = c.args.log.now in
+    let table : SlotTable = record { hashes = c.self.inside.index.hashes; slots = c.self.inside.slots.items; names = c.self.inside.names.items } in
+    let there : bytes_eq (serial_of log table.names (get_or table.slots c.in-Some.number no_slot)) c.args.serial.now ≡ true =
+    (λ i. bytes_eq (serial_of log (sym c.as_slice-names.ensures.value i) (get_or (sym c.as_slice-slots.ensures.value i) c.in-Some.number no_slot)) c.args.serial.now) ∙ sym c.in-Some.ensures.found in
+    subst (λ (slots : RoomySlots). IsSpot log slots.table c.args.serial.now (record { hash = c.hash_of-hash.result; found = Some (c.in-Some.number, get_or c.as_slice-slots.result.now c.in-Some.number no_slot) })) c.self.view_is
+    (spot-there log table (subst (λ (slots : RoomySlots). AreSlots log slots.table) (sym c.self.view_is) c.requires) c.args.serial.now c.hash_of-hash.result c.in-Some.number _ c.hash_of-hash.ensures
+    (omega (arith, c.in-Some.ensures.within, c.self.invariant)) (same_text _ c.args.serial.now (sym there)) (ap (λ (slots : List Slot). get_or slots c.in-Some.number no_slot) c.as_slice-slots.ensures.value))
 
 pub returns-in-None : goal.returns-in-None
 returns-in-None c =
-    let log = c.args.names.now.log.now in
-    let own = c.args.names.now.own.now in
-    let same : c.as_slice-slots.result.now ≡ c.args.self.now.slots = c.as_slice-slots.ensures.value ∙ ap (λ (table : SlotTable). table.slots) c.self.view_is in
-    let hashes : c.self.inside.index.hashes ≡ c.args.self.now.hashes = ap (λ (table : SlotTable). table.hashes) c.self.view_is in
-    spot-none log own c.args.self.now c.requires c.args.serial.now c.serial_hash-hash.result c.serial_hash-hash.ensures (λ number l e.
-    subst (λ (slots : List Slot). bytes_eq (serial_of log own (get_or slots number no_slot)) c.args.serial.now ≡ false) same
-    (sym (c.in-None.ensures.absent number (omega (arith, l, ap length hashes)) (ap (λ (l : List ℕ). get_or l number 0) hashes ∙ e ∙ sym c.serial_hash-hash.ensures))))
+    let log = c.args.log.now in
+    let table : SlotTable = record { hashes = c.self.inside.index.hashes; slots = c.self.inside.slots.items; names = c.self.inside.names.items } in
+    subst (λ (slots : RoomySlots). IsSpot log slots.table c.args.serial.now (record { hash = c.hash_of-hash.result; found = None })) c.self.view_is
+    (spot-none log table (subst (λ (slots : RoomySlots). AreSlots log slots.table) (sym c.self.view_is) c.requires) c.args.serial.now c.hash_of-hash.result c.hash_of-hash.ensures (λ number l e.
+    (λ i. bytes_eq (serial_of log (sym c.as_slice-names.ensures.value i) (get_or (sym c.as_slice-slots.ensures.value i) number no_slot)) c.args.serial.now)
+    ∙ sym (c.in-None.ensures.absent number l (e ∙ sym c.hash_of-hash.ensures))))

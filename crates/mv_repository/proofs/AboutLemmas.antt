@@ -136,8 +136,7 @@ batch-first pack log = grind (arith, nat_tests, batch-upload, find-sent (is_uplo
 
 pub agree : (pack : PackKey) (one other : List LogEntry) → about pack one ≡ about pack other → AgreeOn pack one other
 agree pack one other same =
-    let batch : batch_in pack one ≡ batch_in pack other = named one ∙ ap (first_batch pack) same ∙ sym (named other) in
-    same_history pack one other (history-about pack one ∙ (λ i. history_by pack (batch i) (same i)) ∙ sym (history-about pack other))
-  where
-    named : (log : List LogEntry) → batch_in pack log ≡ first_batch pack (about pack log)
-    named log = grind (arith, nat_tests, batch-first, find-filter)
+    let mine = history-about pack one in
+    let theirs = history-about pack other in
+    let batch : (log : List LogEntry) → batch_in pack log ≡ first_batch pack (about pack log) = λ log. grind (arith, nat_tests, batch-first, find-filter) in
+    same_history pack one other (grind (arith, batch))

@@ -4,7 +4,7 @@ use Rattle.mv_repository.proofs.OrderLemmas.{Stand, find-true, ordered-ascends, 
 use Rattle.mv_repository.proofs.StateLemmas.{known-grown, entry-stands, find-stand}
 use Rattle.mv_repository.proofs.TableLemmas.{filter-stand}
 use Rattle.mv_repository.proofs.NextLemmas.{grown-by}
-use Rattle.mv_repository.proofs.TrackLemmas.{fold-stands}
+use Rattle.mv_repository.proofs.TrackLemmas.{stands-all}
 
 -- a pack is held, and active
 abbrev is_held_active : Option Held → Bool
@@ -36,17 +36,17 @@ module _ (log : List LogEntry) (pack : PackKey) where
   of-birth None s = refl
   of-birth (Some y) s =
       let by = fold (next_by S pack.gtin (Some y)) y own in
-      (λ i. option_map held_of (known_at (entry-stands log y s i) (entry-stands log by (fold-stands log S pack.gtin y y own s s own-stand) i)))
+      (λ i. option_map held_of (known_at (entry-stands log y s i) (entry-stands log by (stands-all log S pack.gtin (Some y) y own (s, s) own-stand).1 i)))
       ∙ ap (option_map held_of) (sym (grown-by S pack y own))
 
   -- a pack is what stands by its last step
-  pub track-state : option_and_then (λ (birth : ℕ). held_at log birth (track_of pack log).by) (track_of pack log).birth ≡ pack_state pack log
-  track-state = grind (arith, nat_tests, find-stand, known-grown, of-birth, ordered-ascends, ordered-stand)
+  pub track_state : option_and_then (λ (birth : ℕ). held_at log birth (track_of pack log).by) (track_of pack log).birth ≡ pack_state pack log
+  track_state = grind (arith, nat_tests, find-stand, known-grown, of-birth, ordered-ascends, ordered-stand)
 
   active-birth : (birth : Option Placed) → IfSome birth (λ x. get_or log x.place no_entry ≡ x.entry) → IfSome birth (λ x. is_upload_of pack x.entry.item ≡ true)
       → option_map_or (λ (first : ℕ). first == last birth) (option_map place_of birth) false ≡ is_held_active (option_map held_of (pack_grown S pack birth own))
   active-birth None s u = refl
-  active-birth (Some y) s u = grind (arith, nat_tests, fold-settled S pack.gtin y y own (inl refl), fold-stands log S pack.gtin y y own s s own-stand, grown-by)
+  active-birth (Some y) s u = grind (arith, nat_tests, fold-settled S pack.gtin y y own (inl refl), (stands-all log S pack.gtin (Some y) y own (s, s) own-stand).1, grown-by)
 
   -- it is active where it stands by its upload
   pub track-active : is_counted Active (track_of pack log) ≡ is_held_active (pack_state pack log)

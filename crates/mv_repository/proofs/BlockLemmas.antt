@@ -136,29 +136,8 @@ module _ (entry : ℕ → Placed) (next : ℕ → ℕ → ℕ) (start : ℕ) (is
       late-standing : fold next start (without own at) ≡ fold next b.after (drop (b.count + 1) (drop cut.start own))
       late-standing = grind (arith, nat_tests, fold-cut, late-after, late-rest)
 
-      late-block : (new : Block) → new.count ≡ b.count + 1 → new.after ≡ fold next cut.by (take (b.count + 1) (drop cut.start own)) → IsSummary entry next start new (take (b.count + 1) (drop cut.start own))
-          → IsFront entry next start (take (cut.number + 1) (set bs cut.number new)) own new.after (drop (b.count + 1) (drop cut.start own))
-      late-block new n a s more h = grind (arith, nat_tests, late-front, late-within, set-take)
-
-      late-done : (new : ℕ) → new ≡ fold next cut.by (take (b.count + 1) (drop cut.start own)) → fold next new (drop (b.count + 1) (drop cut.start own)) ≡ fold next start own
-      late-done new a = grind (arith, nat_tests, fold-cut, late-fold)
-
       -- it is worked out again
       module _ (new : Block) (rest some behind : List ℕ) (r : rest ≡ drop cut.start own) (s : some ≡ take (b.count + 1) rest) (t : behind ≡ drop (b.count + 1) rest)
           (a : new.after ≡ fold next cut.by some) (standing : ℕ) (e : standing ≡ fold next start (without own at)) (n : new.count ≡ b.count + 1) (m : IsSummary entry next start new some) where
-        behind-is : behind ≡ drop (b.count + 1) (drop cut.start own)
-        behind-is = t ∙ ap (drop (b.count + 1)) r
-
-        renewed-after : new.after ≡ fold next cut.by (take (b.count + 1) (drop cut.start own))
-        renewed-after = a ∙ ap (fold next cut.by) (s ∙ ap (take (b.count + 1)) r)
-
-        renewed-front : IsFront entry next start (take (cut.number + 1) (set bs cut.number new)) own new.after behind
-        renewed-front = grind (arith, nat_tests, late-block)
-
         pub renewed : Renewed entry next start bs own cut standing b new behind
-        renewed = record {
-          blocks = subst (AreBlocks entry next start b.after (drop (cut.number + 1) (set bs cut.number new))) (sym behind-is) (late-was new);
-          standing = e ∙ late-standing ∙ ap (fold next b.after) (sym behind-is);
-          front = renewed-front;
-          by = ap (fold next new.after) behind-is ∙ late-done new.after renewed-after;
-        }
+        renewed = grind (arith, nat_tests, fold-cut, late-fold, late-front, late-rest, late-within, late-standing, late-was, set-take)

@@ -1,5 +1,5 @@
 -- What the tables are after one more entry, by its form.
-use Rattle.mv_repository.proofs.Words.{◌≡◌, ◌+◌, ℕ, List, length, get_or, take, sym, ◌∙◌, true, Option, None, Some, Result, OnOk, OnErr, [], ap, Item, Message, Master, Upload, Status, Recall, Withdraw, Product, Standing, CivilDate, pack_key, BatchKey, PackKey, LogEntry, uploaded_in, uploaded_packs, is_master, AreMastersOf, ordered, AreShelfOf, ShelfParts, shelf_of, Stops, first_stops, no_entry, message_in, AreStopsOf, AreTablesOf, life_of, Tables, arith, nat_tests}
+use Rattle.mv_repository.proofs.Words.{◌≡◌, ◌+◌, ℕ, List, length, get_or, take, true, Option, None, Some, Result, OnOk, OnErr, [], Item, Message, Master, Upload, Status, Recall, Withdraw, Product, Standing, CivilDate, BatchKey, PackKey, LogEntry, uploaded_in, uploaded_packs, is_master, AreMastersOf, ordered, AreShelfOf, ShelfParts, shelf_of, Stops, first_stops, no_entry, message_in, AreStopsOf, AreTablesOf, Tables, arith, nat_tests}
 use Rattle.mv_repository.proofs.PacksLemmas.{none-named}
 use Rattle.mv_repository.proofs.ProductLemmas.{masters-noted}
 use Rattle.mv_repository.proofs.SerialLemmas.{serials-at, shelf-kept}
@@ -54,13 +54,8 @@ module _ (whole : List LogEntry) (place : ℕ) (l : length whole ≡ place + 1) 
   pub shelves-at : (shelves : List (List ℕ × ShelfParts)) → NoPack entry.item → first_stops (ordered whole) ≡ first_stops (ordered log)
       → ((gtin : List ℕ) → AreShelfOf log gtin (shelf_of gtin shelves)) → (gtin : List ℕ) → AreShelfOf whole gtin (shelf_of gtin shelves)
   shelves-at shelves none same are gtin =
-      shelf-kept whole place gtin (shelf_of gtin shelves) (
-        λ serial.
-            let pack = pack_key gtin serial in
-            ap (life_of pack) (log-split whole place l)
-            ∙ life-same log entry pack (none.0 pack).0 (none.0 pack).1 (ap (λ (w : List LogEntry). first_stops (ordered w)) (sym (log-split whole place l)) ∙ same),
-        serials-at whole place gtin [] l (none.2 gtin),
-      ) (are gtin)
+      let split = log-split whole place l in
+      shelf-kept whole place gtin (shelf_of gtin shelves) ((λ serial. grind (arith, nat_tests, life-same, none.0)), serials-at whole place gtin [] l (none.2 gtin)) (are gtin)
 
   pub named-at : (named : ℕ) → uploaded_in entry.item ≡ [] → named ≡ length (uploaded_packs log) → named ≡ length (uploaded_packs whole)
   named-at named none is = none-named log entry named none is whole (log-split whole place l)

@@ -1,5 +1,5 @@
 -- Two logs that have the same history of a pack agree on it.
-use Rattle.mv_repository.proofs.Words.{◌≡◌, ◌∷◌, ℕ, List, [], refl, sym, ◌∙◌, ap, Bool, true, false, cond, Option, Some, None, IfSome, is_some, find, fold, map, option_map, option_and_then, PackKey, BatchKey, batch_key, Upload, Item, Receipt, Carried, LogEntry, BatchStanding, Placed, ordered, KnownPack, known_pack, new_pack, is_recall_of, is_withdrawal_of, is_withdrawn, Sent, sent_in, unplaced, is_batch_recalled, AgreeOn, made_batch, entry_of, pack_made_by, FirstStops, first_stops, is_before, first_upload, statuses_of, pack_changed, pack_step, pack_grown, SentStatus, SentHistory, sent_of, history_of, as_sent, HaveSameHistory, arith, nat_tests, batch_in}
+use Rattle.mv_repository.proofs.Words.{◌≡◌, ◌∷◌, ℕ, List, [], refl, sym, ◌∙◌, ap, cond, Option, Some, None, is_some, fold, map, option_map, option_and_then, PackKey, BatchKey, batch_key, Upload, Item, Receipt, Carried, LogEntry, BatchStanding, Placed, ordered, KnownPack, known_pack, new_pack, is_recall_of, is_withdrawal_of, is_withdrawn, Sent, sent_in, unplaced, is_batch_recalled, AgreeOn, made_batch, entry_of, pack_made_by, FirstStops, first_stops, is_before, first_upload, statuses_of, pack_changed, pack_step, pack_grown, SentStatus, SentHistory, sent_of, history_of, as_sent, HaveSameHistory, arith, nat_tests, batch_in}
 use Rattle.mv_repository.proofs.OrderLemmas.{find-true, ordered-ascends}
 use Rattle.mv_repository.proofs.StateLemmas.{known-grown}
 use Rattle.mv_repository.proofs.BeforeLemmas.{any-find}
@@ -79,11 +79,6 @@ state-sent pack log =
 pub sent_entry : (o : Option Placed) → option_and_then (λ (entry : LogEntry). sent_in entry.sender entry.item) (option_map entry_of o) ≡ option_and_then sent_of o
 sent_entry o = grind (arith, nat_tests)
 
--- what was found was sent, where no receipt passes the test
-found-sent : (test : Item → Bool) → ((k : ℕ) (reach : List ℕ) (query : Bool) → test (Receipt k reach query) ≡ false)
-    → (o : Option Placed) → IfSome o (λ x. test x.entry.item ≡ true) → is_some o ≡ is_some (option_and_then sent_of o)
-found-sent test none o h = grind (arith, nat_tests)
-
 recall-sent : (pack : PackKey) (log : List LogEntry) → is_batch_recalled pack.gtin (batch_in pack log) log ≡ is_some (as_sent (history_of pack log)).recall
 recall-sent pack log = by (batch_in pack log)
   where
@@ -91,15 +86,13 @@ recall-sent pack log = by (batch_in pack log)
         ≡ is_some (option_and_then sent_of (option_and_then (λ (number : List ℕ). (first_stops (ordered log)).recall (batch_key pack.gtin number)) batch))
     by None = refl
     by (Some number) =
-        let test : Item → Bool = is_recall_of (batch_key pack.gtin number) in
-        any-find (λ x. test x.entry.item) (ordered log)
-        ∙ found-sent test (λ k reach query. refl) (find (λ x. test x.entry.item) (ordered log)) (find-true (λ x. test x.entry.item) (ordered log))
+        let own = find-true (λ x. is_recall_of (batch_key pack.gtin number) x.entry.item) (ordered log) in
+        grind (arith, nat_tests, any-find)
 
 withdrawal-sent : (pack : PackKey) (log : List LogEntry) → is_withdrawn pack.gtin log ≡ is_some (as_sent (history_of pack log)).withdrawal
 withdrawal-sent pack log =
-    let test : Item → Bool = is_withdrawal_of pack.gtin in
-    any-find (λ x. test x.entry.item) (ordered log)
-    ∙ found-sent test (λ k reach query. refl) (find (λ x. test x.entry.item) (ordered log)) (find-true (λ x. test x.entry.item) (ordered log))
+    let own = find-true (λ x. is_withdrawal_of pack.gtin x.entry.item) (ordered log) in
+    grind (arith, nat_tests, any-find)
 
 pub same_history : (pack : PackKey) (one other : List LogEntry) → HaveSameHistory pack one other → AgreeOn pack one other
 same_history pack one other same = grind (arith, nat_tests, recall-sent pack one, recall-sent pack other, state-sent pack one, state-sent pack other, withdrawal-sent)

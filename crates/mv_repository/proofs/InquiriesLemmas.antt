@@ -1,5 +1,5 @@
 -- Lemmas on what a log says of its party's queries.
-use Rattle.mv_repository.proofs.Words.{◌≡◌, ◌∷◌, ◌++◌, ◌&&◌, ◌||◌, ◌==◌, arith, nat_tests, refl, ℕ, List, [], ◌∙◌, ap, Bool, false, cond, Option, Some, None, is_some, length, list_any, option_or, option_map_or, or-false, list_any-append, Found, Message, Item, Receipt, Carried, LogEntry, Inquiries, Inquiry, asked_parties, finding_in, has_answered, found_active, found_explained, joint_verdict, sym, query_of, inquiry_after, lookup, nat_eq, no_inquiry, unwrap_or, has_reply, inquiry_of, IsInquiriesOf, query_reach, verdict_when, not, filter, Decided}
+use Rattle.mv_repository.proofs.Words.{◌≡◌, ◌∷◌, ◌++◌, ◌&&◌, ◌||◌, ◌==◌, arith, nat_tests, ℕ, List, [], ◌∙◌, ap, Bool, false, cond, Option, Some, None, is_some, length, list_any, option_or, option_map_or, or-false, list_any-append, Found, Message, Item, Carried, LogEntry, Inquiries, Inquiry, asked_parties, finding_in, has_answered, found_active, found_explained, joint_verdict, sym, query_of, inquiry_after, lookup, nat_eq, no_inquiry, unwrap_or, has_reply, inquiry_of, IsInquiriesOf, query_reach, verdict_when, not, filter, Decided}
 
 -- what is kept of a query, if only nothing
 abbrev pub inquiry_in : Inquiries → ℕ → Inquiry
@@ -59,8 +59,7 @@ pub receipt_noted : (party : ℕ) (log : List LogEntry) (sender : ℕ) (item : I
     → ((k stamp : ℕ) (message : Message) → item ≡ Carried k stamp message → ⊥) → query_of party sender item ≡ Some asked
     → ((q : ℕ) → inquiry_in known' q ≡ cond (asked == q) (inquiry_after item (inquiry_in known q)) (inquiry_in known q))
     → ((q other : ℕ) → has_reply known' q other ≡ has_reply known q other) → IsInquiriesOf party log known → IsInquiriesOf party (with_entry log sender item) known'
-receipt_noted party log sender (Receipt k reach query) asked known known' form told inquiries replies is = grind (arith, nat_tests, inquiry-more, replies-more)
-receipt_noted party log sender (Carried k stamp message) asked known known' form told inquiries replies is = absurd (form k stamp message refl)
+receipt_noted party log sender item asked known known' form told inquiries replies is = grind (arith, nat_tests, inquiry-more, replies-more)
 
 pub answer_noted : (party : ℕ) (log : List LogEntry) (sender : ℕ) (item : Item) (asked : ℕ) (known known' : Inquiries) (k stamp : ℕ) (message : Message)
     → item ≡ Carried k stamp message → query_of party sender item ≡ Some asked

@@ -1,5 +1,6 @@
 -- Lemmas on the table of packs.
-use Rattle.mv_repository.proofs.Words.{◌≡◌, ◌&&◌, bytes_eq, ℕ, List, Option, option_and_then, sym, true, same_text, nat_list_eq_equiv, PackKey, BatchKey, is_same_pack, is_same_batch, pack_key, batch_key, and_parts, Life, Placed, made_batch}
+use Rattle.mv_repository.proofs.Words.{◌≡◌, ◌&&◌, bytes_eq, ℕ, List, Option, option_and_then, true, same_text, nat_list_eq_equiv, PackKey, BatchKey, is_same_pack, is_same_batch, Life, Placed, made_batch}
+use Rattle.mv_repository.proofs.Words.{arith, nat_tests}
 
 -- the batch of the upload that made a pack
 abbrev pub life_batch : Life → Option (List ℕ)
@@ -7,18 +8,10 @@ life_batch life = option_and_then (λ (placed : Placed). made_batch placed.entry
 
 -- keys that pass the test are one
 pub same_pack : (a b : PackKey) → is_same_pack a b ≡ true → a ≡ b
-same_pack a b e =
-    let p = and_parts (bytes_eq a.gtin b.gtin) (bytes_eq a.serial b.serial) e in
-    let g = same_text a.gtin b.gtin (sym p.0) in
-    let s = same_text a.serial b.serial (sym p.1) in
-    λ i. pack_key (g i) (s i)
+same_pack a b e = grind (arith, nat_tests, same_text a.gtin b.gtin, same_text a.serial b.serial)
 
 pub same_batch : (a b : BatchKey) → is_same_batch a b ≡ true → a ≡ b
-same_batch a b e =
-    let p = and_parts (bytes_eq a.gtin b.gtin) (bytes_eq a.batch b.batch) e in
-    let g = same_text a.gtin b.gtin (sym p.0) in
-    let s = same_text a.batch b.batch (sym p.1) in
-    λ i. batch_key (g i) (s i)
+same_batch a b e = grind (arith, nat_tests, same_text a.gtin b.gtin, same_text a.batch b.batch)
 
 pub text-sym : (a b : List ℕ) → bytes_eq a b ≡ bytes_eq b a
 text-sym a b = nat_list_eq_equiv.symm a b

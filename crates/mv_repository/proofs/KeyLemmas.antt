@@ -1,5 +1,5 @@
 -- The counts of a log that its tables of keys give.
-use Rattle.mv_repository.proofs.Words.{◌≡◌, ◌∷◌, ◌&&◌, ◌||◌, bytes_eq, ℕ, List, [], length, sym, ◌∙◌, ap, Bool, cond, Option, None, is_some, filter, length-keys_of, length-from_keys, is_some-lookup, IsEquivalence, nat_list_eq_equiv, list_any, flat_map, IsDistinct, last_or, lookup, keys_of, distinct_count, is_member, Item, is_same_batch, BatchKey, LogEntry, mastered_in, recalled_in, is_master, AreMastersOf, Placed, ordered, is_recall_of, Stops, AreStopsOf, place_of, arith, nat_tests}
+use Rattle.mv_repository.proofs.Words.{◌≡◌, ◌∷◌, ◌&&◌, ◌||◌, bytes_eq, ℕ, List, [], length, ap, Bool, cond, Option, is_some, filter, length-keys_of, length-from_keys, is_some-lookup, IsEquivalence, nat_list_eq_equiv, list_any, flat_map, IsDistinct, last_or, lookup, keys_of, distinct_count, is_member, Item, is_same_batch, BatchKey, LogEntry, mastered_in, recalled_in, is_master, AreMastersOf, Placed, is_recall_of, Stops, AreStopsOf, arith, nat_tests}
 use Rattle.mv_repository.proofs.KeptLemmas.{text-sym, text-self, same_batch}
 use Rattle.mv_repository.proofs.UploadedLemmas.{any-ordered, any-flat, found-any, some-map}
 
@@ -24,8 +24,7 @@ last-found f last (y ∷ ys) = by (f y) (λ o. last-found f o ys)
 pub count-products : (log : List LogEntry) (masters : List (List ℕ × ℕ)) → IsDistinct bytes_eq (keys_of masters) → AreMastersOf log masters → length masters ≡ distinct_count bytes_eq (flat_map (λ entry. mastered_in entry.item) log)
 count-products log masters distinct places =
     counted-once nat_list_eq_equiv masters (flat_map (λ entry. mastered_in entry.item) log) distinct
-    (λ gtin. ap is_some (places gtin) ∙ some-map place_of (last_or None (filter (λ placed. is_master gtin placed.entry.item) (ordered log))) ∙ last-found (λ placed. is_master gtin placed.entry.item) None (ordered log) ∙ any-ordered (is_master gtin) log
-    ∙ sym (any-flat (bytes_eq gtin) mastered_in (is_master gtin) (mastered-is gtin) log))
+    (λ gtin. grind (arith, any-flat (bytes_eq gtin) mastered_in (is_master gtin) (mastered-is gtin) log, any-ordered (is_master gtin) log, last-found, places gtin, some-map))
 
 batch-equiv : IsEquivalence is_same_batch
 batch-equiv = record {
@@ -37,5 +36,4 @@ batch-equiv = record {
 pub count-recalled : (log : List LogEntry) (tables : Stops) → IsDistinct is_same_batch (keys_of tables.recalls.entries) → AreStopsOf log tables → length tables.recalls.entries ≡ distinct_count is_same_batch (flat_map (λ entry. recalled_in entry.item) log)
 count-recalled log tables distinct stops =
     counted-once batch-equiv tables.recalls.entries (flat_map (λ entry. recalled_in entry.item) log) distinct
-    (λ batch. ap is_some (stops.recalls.found batch) ∙ found-any (λ placed. is_recall_of batch placed.entry.item) (ordered log) ∙ any-ordered (is_recall_of batch) log
-    ∙ sym (any-flat (is_same_batch batch) recalled_in (is_recall_of batch) (recalled-is batch) log))
+    (λ batch. grind (arith, any-flat (is_same_batch batch) recalled_in (is_recall_of batch) (recalled-is batch) log, any-ordered (is_recall_of batch) log, found-any, stops.recalls.found batch))

@@ -11,7 +11,7 @@ pub use Rattle.mv_repository.proofs.NextLemmas.{own-passed}
 pub use Rattle.mv_repository.proofs.BlockLemmas.{covered-more, cut-next, fold-cut, has-added, last-blocks, late-before, late-within, late-front, late-fold, pass-after, pass-behind, pass-front, renewed, without-insert}
 pub use Rattle.mv_repository.proofs.TrackLemmas.{put-ascend, put-blocks, put-standing, put-status, status-form}
 pub use Rattle.mv_repository.proofs.UploadLemmas.{ArePacksOf, batch-kept, batch-noted, status-others, upload-adds, upload-all, upload-form, upload-names, upload-worked}
-pub use Rattle.mv_repository.proofs.ActiveLemmas.{active-all, track-state}
+pub use Rattle.mv_repository.proofs.ActiveLemmas.{active-all}
 pub use Rattle.mv_repository.proofs.AgainLemmas.{shelf-again, shelf-empty}
 pub use Rattle.mv_repository.proofs.UploadedLemmas.{found-any, named-longer, named-upload, new-more, new_count}
 pub use Rattle.mv_repository.proofs.SlotLemmas.{keys-keyed, lookup-insert, own-there, slot-named, spot-none, spot-there, slots-longer, written-behind, written-own, written-there}

@@ -1,5 +1,5 @@
 -- What `next` gives is one step of the pack's state, so the place of one entry is all that has to be kept of it.
-use Rattle.mv_repository.proofs.Words.{◌≡◌, ◌∷◌, ◌%◌, ℕ, List, [], refl, Bool, true, false, cond, Option, Some, None, fold, AllByRecursion, option_map, PackKey, BatchKey, Standing, Status, Item, Carried, LogEntry, PartySet, batch_key, has_party, PARTIES_LIMIT, IsCovered, BatchStanding, Placed, KnownPack, is_active, is_done, change_effect, pack_made_by, standing_in, change_in, known_at, effect_from, message_in, next_by, next_place, FirstStops, standing_at, entry_at, pack_changed, pack_step, pack_grown, arith, nat_tests}
+use Rattle.mv_repository.proofs.Words.{◌≡◌, ◌∷◌, ◌%◌, ℕ, List, [], refl, Bool, true, false, cond, Option, Some, fold, AllByRecursion, option_map, PackKey, BatchKey, Item, LogEntry, PartySet, has_party, PARTIES_LIMIT, IsCovered, BatchStanding, Placed, KnownPack, is_active, is_done, pack_made_by, standing_in, change_in, known_at, effect_from, message_in, next_by, next_place, FirstStops, standing_at, entry_at, pack_changed, pack_step, pack_grown, arith, nat_tests}
 use Rattle.mv_repository.specs.declared.effect.Effect.TheVariants as effects
 
 pub born : (birth : Placed) → known_at birth birth ≡ pack_made_by birth.entry.item
@@ -12,17 +12,11 @@ module _ (stops : FirstStops) (pack : PackKey) (birth by placed : Placed) (made 
   abbrev standing : BatchKey → BatchStanding
   standing = standing_at stops placed
 
-  done : (key : PackKey) (k stamp : ℕ) (to : Standing) (user : List ℕ) (at : ℕ) → placed.entry.item ≡ Carried k stamp (Status key to user at) → (d a : Bool) → is_active to ≡ a
-      → known_at birth (cond d (cond a birth placed) by)
-      ≡ Some (cond d (record held { standing = to; change = cond a None (Some (record { by = placed.entry.sender; user = user; at = at; entry = placed.place })) }) held)
-  done key k stamp to user at e d a h = grind (arith, nat_tests)
-
   stepped : (b : Bool) (item : Item) → placed.entry.item ≡ item
       → known_at birth (cond (is_done (cond b (effect_from standing placed.entry.sender (message_in item) pack.gtin held) effects.Unknown)) (cond (is_active (standing_in item)) birth placed) by)
       ≡ Some (cond b (pack_changed standing placed.place placed.entry.sender item pack held) held)
   stepped false item e = grind (arith, nat_tests)
-  stepped true (Carried k stamp (Status key to user at)) e = done key k stamp to user at e (is_done (change_effect held (standing (batch_key pack.gtin made.batch)) to placed.entry.sender user at)) (is_active to) refl
-  stepped true _ e = grind (arith, nat_tests)
+  stepped true item e = grind (arith, nat_tests)
 
   next_made : known_at birth (next_by stops pack.gtin (Some birth) by placed) ≡ option_map (λ held. pack_step stops pack birth held placed) (known_at birth by)
   next_made = grind (arith, nat_tests, stepped)
@@ -30,12 +24,7 @@ module _ (stops : FirstStops) (pack : PackKey) (birth by placed : Placed) (made 
 -- the next entry by which a pack stands is one step of its state
 pub next-step : (stops : FirstStops) (pack : PackKey) (birth by placed : Placed)
     → known_at birth (next_by stops pack.gtin (Some birth) by placed) ≡ option_map (λ held. pack_step stops pack birth held placed) (known_at birth by)
-next-step stops pack birth by placed = made (pack_made_by birth.entry.item) refl
-  where
-    made : (o : Option KnownPack) → pack_made_by birth.entry.item ≡ o
-        → known_at birth (next_by stops pack.gtin (Some birth) by placed) ≡ option_map (λ held. pack_step stops pack birth held placed) (known_at birth by)
-    made (Some one) e = next_made stops pack birth by placed one e
-    made None e = grind (arith, nat_tests)
+next-step stops pack birth by placed = grind (arith, nat_tests, next_made stops pack birth by placed)
 
 -- and all of them, one after another, are the state
 pub grown-from : (stops : FirstStops) (pack : PackKey) (birth by : Placed) (xs : List Placed)

@@ -1,5 +1,5 @@
 -- Lemmas on the order of stamps.
-use Rattle.mv_repository.proofs.Words.{◌≡◌, ◌+◌, ◌<◌, ◌∷◌, ◌++◌, slice_get, Some, get_or, ℕ, suc, List, [], length, fold, refl, sym, ◌∙◌, ap, subst, arith, Bool, true, false, cond, cond_both, IfSome, Option, filter, find, nat_tests, get_or_append_left, slice_get_within, get_or_from_slice_get, AllByRecursion, last_or, LogEntry, Placed, passes, put_in, ordered, stands_before, Ascends, IsOrderOf, no_entry, IsPermutation-cons, IsPermutation-middle, IsPermutation-trans, IsPermutation}
+use Rattle.mv_repository.proofs.Words.{◌≡◌, ◌+◌, ◌<◌, ◌∷◌, ◌++◌, slice_get, Some, get_or, ℕ, suc, List, [], length, fold, refl, sym, subst, arith, Bool, true, false, cond, cond_both, IfSome, Option, filter, find, nat_tests, get_or_append_left, slice_get_within, get_or_from_slice_get, AllByRecursion, last_or, LogEntry, Placed, passes, put_in, ordered, stands_before, Ascends, IsOrderOf, no_entry, IsPermutation-cons, IsPermutation-middle, IsPermutation-trans, IsPermutation}
 
 -- what holds of each holds of each that passes a test, of the first and of the last of them, and of what is put in too
 pub map-all : {A : Type 0} (P Q : A → Type 0) → ((x : A) → P x → Q x) → (xs : List A) → AllByRecursion P xs → AllByRecursion Q xs
@@ -89,11 +89,8 @@ ordered-ascends log = ascends-after [] log tt tt
 
 after-push : (xs : List Placed) (log : List LogEntry) (entry : LogEntry)
     → placed_after xs (log ++ entry ∷ []) ≡ put_in (placed_at (length xs + length log) entry) (placed_after xs log)
-after-push xs [] entry = let k : length xs ≡ length xs + 0 = omega arith in ap (λ m. put_in (placed_at m entry) xs) k
-after-push xs (first ∷ log) entry =
-    let more = put_in (placed_at (length xs) first) xs in
-    let k : length more + length log ≡ length xs + length (first ∷ log) = omega (arith, length-put_in (placed_at (length xs) first) xs) in
-    after-push more log entry ∙ ap (λ m. put_in (placed_at m entry) (placed_after more log)) k
+after-push xs [] entry = grind (arith, nat_tests)
+after-push xs (first ∷ log) entry = grind (arith, nat_tests, after-push (put_in (placed_at (length xs) first) xs) log entry, length-put_in)
 
 -- the order with one more entry
 pub ordered-push : (log : List LogEntry) (entry : LogEntry) → ordered (log ++ entry ∷ []) ≡ put_in (placed_at (length log) entry) (ordered log)

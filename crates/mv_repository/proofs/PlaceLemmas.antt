@@ -1,5 +1,5 @@
 -- Lemmas on places in the log, where the entries are in the order of stamps.
-use Rattle.mv_repository.proofs.Words.{◌≡◌, ◌<◌, ◌≤◌, ◌∷◌, ℕ, zero, suc, List, [], length, map, get_or, insert, take, not, refl, arith, nat_tests, Bool, true, false, LogEntry, Placed, passes, stands_before, Ascends, entry_at, filter, IsPartitionedBy, IsPartitionPoint}
+use Rattle.mv_repository.proofs.Words.{◌≡◌, ◌<◌, ◌≤◌, ◌∷◌, ℕ, zero, suc, List, [], length, map, get_or, insert, take, not, arith, nat_tests, Bool, true, false, LogEntry, Placed, passes, stands_before, Ascends, entry_at, filter, IsPartitionedBy, IsPartitionPoint}
 use Rattle.mv_repository.proofs.OrderLemmas.{StandsBeforeAll}
 use Rattle.mv_repository.proofs.TableLemmas.{put_place}
 
@@ -20,9 +20,8 @@ module _ (log : List LogEntry) (new : ℕ) where
   pub parted : (places : List ℕ) → Ascends (map (entry_at log) places) → IsPartitionedBy stays_at places
   parted [] a i j d h l e = absurd (omega arith)
   parted (p ∷ ps) a zero zero d h l e = e
-  parted (p ∷ ps) a zero (suc j) d h l e = let behind = before_get log (entry_at log p) ps j d a.0 (omega arith) in grind (arith, nat_tests)
-  parted (p ∷ ps) a (suc i) zero d h l e = absurd (omega arith)
-  parted (p ∷ ps) a (suc i) (suc j) d h l e = parted ps a.1 i j d (omega arith) (omega arith) e
+  parted (p ∷ ps) a zero (suc j) d h l e = grind (arith, nat_tests, before_get log (entry_at log p) ps j d a.0)
+  parted (p ∷ ps) a (suc i) j d h l e = grind (arith, nat_tests, parted ps a.1 i)
 
   -- those places whose entries the newest does not pass
   abbrev pub places_before : List ℕ → List ℕ
@@ -36,7 +35,6 @@ module _ (log : List LogEntry) (new : ℕ) where
   -- there the newest goes
   pub place_cut : (places : List ℕ) (k : ℕ) → k ≤ length places → IsCutFor places k
       → (insert places k new ≡ put_place log new places) × (take k places ≡ places_before places)
-  place_cut [] zero l c = (refl, refl)
-  place_cut [] (suc k) l c = absurd (omega arith)
+  place_cut [] k l c = grind (arith, nat_tests)
   place_cut (p ∷ ps) zero l c = grind (arith, nat_tests, place_cut ps zero (omega arith) (λ i d h g. absurd (omega (arith, g)), λ i d h g. c.1 (suc i) d (omega arith) (omega arith)), c.1 0 0 (omega arith) (omega arith))
   place_cut (p ∷ ps) (suc k) l c = grind (arith, nat_tests, place_cut ps k (omega arith) (λ i d h g. c.0 (suc i) d (omega arith) (omega arith), λ i d h g. c.1 (suc i) d (omega arith) (omega arith)), c.0 0 0 (omega arith) (omega arith))

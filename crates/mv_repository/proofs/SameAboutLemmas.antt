@@ -1,8 +1,10 @@
 -- Two logs with distinct stamps that have the same messages about a pack have them in the same order.
-use Rattle.mv_repository.proofs.Words.{◌≡◌, ◌<◌, ◌∷◌, ◌⊎◌, ℕ, zero, suc, List, [], length, refl, sym, ◌∙◌, ap, subst, arith, Bool, true, false, cond, Option, Some, filter, inl, inr, ⊤, Contains, slice_get, nat_tests, PackKey, Message, Item, Carried, LogEntry, slice_get_within, get_or_from_slice_get, slice_get-get_or, AllByRecursion, cons_option, None, Placed, ordered, put_in, stands_before, Ascends, Sent, sent_in, bears_on, about, AgreeOn, HasDistinctStamps, HaveSameAbout, HaveSameEntries, common_steps, All-contains, All-from_recursion, Contains-permutation, batch_in}
-use Rattle.mv_repository.proofs.OrderLemmas.{placed_after, put_in-permutes, StandsBeforeAll, AreOf, ordered-ascends, ordered-of, filter-all}
+use Rattle.mv_repository.proofs.Words.{◌≡◌, ◌<◌, ◌∷◌, ◌++◌, ℕ, suc, List, [], append-nil, refl, sym, ◌∙◌, ap, subst, arith, Bool, false, cond_both, Option, Some, None, IfSome, filter, filter_map, nat_eq, map, get_or, length, ⊤, Contains, nat_tests, PackKey, LogEntry, AllByRecursion, IsDistinct, cons_option, option_map, passes, Placed, ordered, put_in, Ascends, Sent, sent_in, sent_of, bears_on, about, AgreeOn, HasDistinctStamps, HaveSameAbout, HaveSameEntries, common_steps, All-contains, All-from_recursion, Contains-permutation, batch_in, IsPermutation, IsPermutation-cons, IsPermutation-middle, IsPermutation-trans}
+use Rattle.std.proofs.lemmas.List.Elements.{All-contains_itself, recursion_from_All}
+use Rattle.std.proofs.lemmas.List.Sorted.{IsPermutation-append_left, IsPermutation-map, IsPermutation-refl, IsPermutation-sym}
+use Rattle.std.proofs.lemmas.Map.Keys.{IsDistinct-IsPermutation}
+use Rattle.mv_repository.proofs.OrderLemmas.{placed_after, placed_at, StandsBeforeAll, ordered-ascends, filter-all}
 use Rattle.mv_repository.proofs.AboutLemmas.{agree, first_batch, batch-first, sent_by}
-use Rattle.mv_repository.proofs.StampsLemmas.{stamp_in, stamp_at, HasNoStampTwice, not-twice}
 
 -- each stamp is greater
 abbrev AllAbove : ℕ → List Sent → Type 0
@@ -20,9 +22,6 @@ module _ {A : Type 0} where
 
   contains-there : (x y : A) (ys : List A) → Contains ys x → Contains (y ∷ ys) x
   contains-there x y ys c = (suc c.0, omega (arith, c.1), c.2)
-
-  contains-either : (x y : A) (ys : List A) → Contains (y ∷ ys) x → (y ≡ x) ⊎ Contains ys x
-  contains-either x y ys c = grind (arith, nat_tests)
 
   contains-none : (x : A) → Contains [] x → ⊥
   contains-none x c = omega (arith, c.1)
@@ -55,93 +54,96 @@ same-order (x ∷ xs) (y ∷ ys) p q f g =
 -- a part of a list with increasing stamps
 increases-filter : (f : Sent → Bool) (xs : List Sent) → Increases xs → Increases (filter f xs)
 increases-filter f [] a = tt
-increases-filter f (x ∷ xs) a = elim (f x) as (λ b. Increases (cond b (x ∷ filter f xs) (filter f xs))) [ true ↦ (filter-all (λ one. x.stamp < one.stamp) f xs a.0, increases-filter f xs a.1) | false ↦ increases-filter f xs a.1 ]
+increases-filter f (x ∷ xs) a = grind (arith, nat_tests, filter-all (λ one. x.stamp < one.stamp) f xs a.0, increases-filter f xs a.1)
 
-stamp-there : (log : List LogEntry) (x : Placed) → slice_get log x.place ≡ Some x.entry → stamp_at log x.place ≡ stamp_in x.entry.item
-stamp-there log x there = grind (arith, nat_tests)
+-- the messages that a log carries, one by one
+abbrev sents : List LogEntry → List Sent
+sents log = filter_map (λ entry. sent_in entry.sender entry.item) log
 
-above-behind : (log : List LogEntry) (place sender k stamp : ℕ) (message : Message) (xs : List Placed) → HasNoStampTwice log → stamp_at log place ≡ Some stamp
-    → StandsBeforeAll (record { place = place; entry = record { sender = sender; item = Carried k stamp message } }) xs → AreOf log xs → AllAbove stamp (sent_by xs)
-above-behind log place sender k stamp message [] distinct there before of = tt
-above-behind log place sender k stamp message (x ∷ xs) distinct there before of =
-    by x.entry.item before.0 (stamp-there log x of.0) (above-behind log place sender k stamp message xs distinct there before.1 of.1)
+-- in the order of stamps they are the same
+two-more : (S T : List Sent) (o p : Option Sent) → IsPermutation (cons_option o S) T → IsPermutation (cons_option o (cons_option p S)) (cons_option p T)
+two-more S T o None r = r
+two-more S T None (Some b) r = IsPermutation-cons b S T r
+two-more S T (Some a) (Some b) r = IsPermutation-trans _ _ _ (IsPermutation-middle (a ∷ []) b S) (IsPermutation-cons b (a ∷ S) T r)
+
+sents-put_in : (x : Placed) (xs : List Placed) → IsPermutation (sent_by (x ∷ xs)) (sent_by (put_in x xs))
+sents-put_in x [] = IsPermutation-refl _
+sents-put_in x (y ∷ ys) =
+    cond_both (passes x y) (x ∷ y ∷ ys) (y ∷ put_in x ys) (λ l. IsPermutation (sent_by (x ∷ y ∷ ys)) (sent_by l)) (λ e. IsPermutation-refl _)
+    (λ e. two-more (sent_by ys) (sent_by (put_in x ys)) (sent_of x) (sent_of y) (sents-put_in x ys))
+
+sents-after : (xs : List Placed) (log : List LogEntry) → IsPermutation (sent_by xs ++ sents log) (sent_by (placed_after xs log))
+sents-after xs [] = subst (λ (l : List Sent). IsPermutation l (sent_by xs)) (sym (append-nil (sent_by xs))) (IsPermutation-refl _)
+sents-after xs (entry ∷ log) =
+    let x = placed_at (length xs) entry in
+    IsPermutation-trans _ _ _ (by (put_in x xs) (sent_of x) (sents-put_in x xs)) (sents-after (put_in x xs) log)
   where
-    by : (item : Item) → stands_before (record { place = place; entry = record { sender = sender; item = Carried k stamp message } }) (record { place = x.place; entry = record { sender = x.entry.sender; item = item } }) ≡ true
-        → stamp_at log x.place ≡ stamp_in item → AllAbove stamp (sent_by xs)
-        → AllAbove stamp (sent_by (record { place = x.place; entry = record { sender = x.entry.sender; item = item } } ∷ xs))
-    by item less at rest = grind (arith, nat_tests)
+    by : (more : List Placed) (o : Option Sent) → IsPermutation (cons_option o (sent_by xs)) (sent_by more)
+        → IsPermutation (sent_by xs ++ cons_option o (sents log)) (sent_by more ++ sents log)
+    by more None r = IsPermutation-append_left (sents log) (sent_by xs) (sent_by more) r
+    by more (Some s) r = IsPermutation-trans _ _ _ (IsPermutation-middle (sent_by xs) s (sents log)) (IsPermutation-append_left (sents log) (s ∷ sent_by xs) (sent_by more) r)
 
-increases-by : (log : List LogEntry) (xs : List Placed) → HasNoStampTwice log → Ascends xs → AreOf log xs → Increases (sent_by xs)
-increases-by log [] distinct ascends of = tt
-increases-by log (x ∷ xs) distinct ascends of = by x.entry.item ascends.0 (stamp-there log x of.0) (increases-by log xs distinct ascends.1 of.1)
+stamps-are : (log : List LogEntry) → filter_map (λ entry. option_map (λ (sent : Sent). sent.stamp) (sent_in entry.sender entry.item)) log
+    ≡ map (λ (s : Sent). s.stamp) (sents log)
+stamps-are [] = refl
+stamps-are (entry ∷ log) = grind (arith, nat_tests, stamps-are log)
+
+-- so they increase there, where stamps are distinct
+above : (x : Placed) (sent : Sent) (ys : List Placed) → sent_of x ≡ Some sent → StandsBeforeAll x ys
+    → AllByRecursion (λ stamp. nat_eq sent.stamp stamp ≡ false) (map (λ (s : Sent). s.stamp) (sent_by ys)) → AllAbove sent.stamp (sent_by ys)
+above x sent [] is before apart = tt
+above x sent (y ∷ ys) is before apart = grind (arith, nat_tests, above x sent ys is before.1)
+
+increases-by : (xs : List Placed) → Ascends xs → IsDistinct nat_eq (map (λ (s : Sent). s.stamp) (sent_by xs)) → Increases (sent_by xs)
+unfolding IsDistinct
+increases-by [] ascends apart = tt
+increases-by (x ∷ xs) ascends apart = by (sent_of x) refl (increases-by xs ascends.1) apart
   where
-    by : (item : Item) → StandsBeforeAll (record { place = x.place; entry = record { sender = x.entry.sender; item = item } }) xs
-        → stamp_at log x.place ≡ stamp_in item → Increases (sent_by xs)
-        → Increases (sent_by (record { place = x.place; entry = record { sender = x.entry.sender; item = item } } ∷ xs))
-    by item before at rest = grind (arith, nat_tests, above-behind)
+    by : (o : Option Sent) → sent_of x ≡ o → (IsDistinct nat_eq (map (λ (s : Sent). s.stamp) (sent_by xs)) → Increases (sent_by xs))
+        → IsDistinct nat_eq (map (λ (s : Sent). s.stamp) (cons_option o (sent_by xs))) → Increases (cons_option o (sent_by xs))
+    by None e rest apart = rest apart
+    by (Some s) e rest apart = (above x s xs e ascends.0 apart.0, rest apart.1)
 
-about-increases : (pack : PackKey) (log : List LogEntry) → HasDistinctStamps log → Increases (about pack log)
-about-increases pack log distinct = grind (arith, nat_tests, increases-by, increases-filter, not-twice, ordered-ascends, ordered-of)
+ordered-increases : (log : List LogEntry) → HasDistinctStamps log → Increases (sent_by (ordered log))
+ordered-increases log apart =
+    increases-by (ordered log) (ordered-ascends log) (IsDistinct-IsPermutation nat_eq (λ x y. grind (arith, nat_tests)) _ _ (IsPermutation-map (λ (s : Sent). s.stamp) _ _ (sents-after [] log))
+    (subst (IsDistinct nat_eq) (stamps-are log) apart))
 
 pub same_about : (pack : PackKey) (one other : List LogEntry) → HasDistinctStamps one → HasDistinctStamps other → HaveSameAbout pack one other → AgreeOn pack one other
-same_about pack one other distinct apart same = grind (arith, nat_tests, agree pack one other (same-order (about pack one) (about pack other) (about-increases pack one distinct) (about-increases pack other apart) (λ sent. (same sent).0) (λ sent. (same sent).1)))
-
--- the message that a placed entry carries
-abbrev sent_of : Placed → Option Sent
-sent_of x = sent_in x.entry.sender x.entry.item
-
--- an entry that is put in is there, and those that were there stay
-stays : (placed : List Placed) (log : List LogEntry) (y : Placed) → Contains placed y → Contains (placed_after placed log) y
-stays placed [] y c = c
-stays placed (entry ∷ log) y c =
-    let x : Placed = record { place = length placed; entry = entry } in
-    stays (put_in x placed) log y (Contains-permutation (x ∷ placed) (put_in x placed) y (put_in-permutes x placed) (contains-there y x placed c))
-
--- so each entry of a log stands in its order
-came : (placed : List Placed) (log : List LogEntry) (i : ℕ) (entry : LogEntry) → slice_get log i ≡ Some entry → (x : Placed) × (x.entry ≡ entry) × Contains (placed_after placed log) x
-came placed [] i entry at = absurd (cc)
-came placed (first ∷ log) zero entry at =
-    let x : Placed = record { place = length placed; entry = first } in
-    let same : first ≡ entry = cc at in
-    (x, same, stays (put_in x placed) log x (Contains-permutation (x ∷ placed) (put_in x placed) x (put_in-permutes x placed) (contains-here x placed)))
-came placed (first ∷ log) (suc i) entry at = came (put_in (record { place = length placed; entry = first }) placed) log i entry at
-
--- the messages that entries carry, one by one
-sent-in : (xs : List Placed) (x : Placed) (sent : Sent) → Contains xs x → sent_of x ≡ Some sent → Contains (sent_by xs) sent
-sent-in [] x sent c e = grind (arith, nat_tests)
-sent-in (y ∷ ys) x sent c e =
-    elim (contains-either x y ys c) as (λ _. Contains (sent_by (y ∷ ys)) sent) [
-      | inl same ↦ subst (λ (o : Option Sent). Contains (cons_option o (sent_by ys)) sent) (sym (ap sent_of same ∙ e)) (contains-here sent (sent_by ys))
-      | inr later ↦ behind (sent_of y) (sent-in ys x sent later e)
-    ]
+same_about pack one other distinct apart same =
+    agree pack one other (same-order (about pack one) (about pack other) (about-increases one distinct) (about-increases other apart) (λ sent. (same sent).0) (λ sent. (same sent).1))
   where
-    behind : (o : Option Sent) → Contains (sent_by ys) sent → Contains (cons_option o (sent_by ys)) sent
-    behind None c = c
-    behind (Some first) c = contains-there sent first (sent_by ys) c
+    about-increases : (log : List LogEntry) → HasDistinctStamps log → Increases (about pack log)
+    about-increases log distinct = increases-filter (λ sent. bears_on pack (batch_in pack log) sent.message) (sent_by (ordered log)) (ordered-increases log distinct)
 
-sent-out : (xs : List Placed) (sent : Sent) → Contains (sent_by xs) sent → (x : Placed) × Contains xs x × (sent_of x ≡ Some sent)
-sent-out [] sent c = grind (arith, nat_tests)
-sent-out (y ∷ ys) sent c = by (sent_of y) refl (λ d. let r = sent-out ys sent d in (r.0, contains-there r.0 y ys r.1, r.2)) c
-  where
-    by : (o : Option Sent) → sent_of y ≡ o → (Contains (sent_by ys) sent → (x : Placed) × Contains (y ∷ ys) x × (sent_of x ≡ Some sent))
-        → Contains (cons_option o (sent_by ys)) sent → (x : Placed) × Contains (y ∷ ys) x × (sent_of x ≡ Some sent)
-    by o e rest c = grind (arith, nat_tests)
+-- what holds of what a log carries holds of what each entry carries
+sents-of : (P : Sent → Type 0) (log : List LogEntry) → AllByRecursion P (sents log) → AllByRecursion (λ (e : LogEntry). IfSome (sent_in e.sender e.item) P) log
+sents-of P [] h = tt
+sents-of P (entry ∷ log) h = grind (arith, nat_tests, sents-of P log)
 
--- each entry of one log is in another: so each of its messages stands in the order of that
-sent-also : (one other : List LogEntry) (sent : Sent) → ((entry : LogEntry) → Contains one entry → Contains other entry)
-    → Contains (sent_by (ordered one)) sent → Contains (sent_by (ordered other)) sent
-sent-also one other sent also c =
-    let x = sent-out (ordered one) sent c in
-    let at = of-all (λ x. slice_get one x.place ≡ Some x.entry) (ordered one) x.0 (ordered-of one) x.1 in
-    let there = also x.0.entry (x.0.place, slice_get_within one x.0.place x.0.entry at, get_or_from_slice_get one x.0.place x.0.entry x.0.entry at) in
-    let y = came [] other there.0 x.0.entry (slice_get-get_or other there.0 x.0.entry there.1 ∙ ap Some there.2) in
-    sent-in (ordered other) y.0 sent y.2 (ap (λ (e : LogEntry). sent_in e.sender e.item) y.1 ∙ x.2)
+sents-all : (P : Sent → Type 0) (log : List LogEntry) → AllByRecursion (λ (e : LogEntry). IfSome (sent_in e.sender e.item) P) log → AllByRecursion P (sents log)
+sents-all P [] h = tt
+sents-all P (entry ∷ log) h = grind (arith, nat_tests, sents-all P log h.1)
+
+-- each entry of one log is in another: so is each of its messages
+sents-also : (one other : List LogEntry) → ((entry : LogEntry) → Contains one entry → Contains other entry)
+    → (sent : Sent) → Contains (sents one) sent → Contains (sents other) sent
+sents-also one other also sent c =
+    let In : LogEntry → Type 0 = λ entry. IfSome (sent_in entry.sender entry.item) (Contains (sents other)) in
+    let there = All-from_recursion In other (sents-of (Contains (sents other)) other (recursion_from_All (Contains (sents other)) (sents other) (All-contains_itself (sents other)))) in
+    let here = recursion_from_All In one (λ i d l. All-contains In other (get_or one i d) there (also _ (All-contains_itself one i d l))) in
+    All-contains (Contains (sents other)) (sents one) sent (All-from_recursion (Contains (sents other)) (sents one) (sents-all (Contains (sents other)) one here)) c
 
 -- two logs with distinct stamps and the same entries agree on every pack
 pub same_entries : (pack : PackKey) (one other : List LogEntry) → HasDistinctStamps one → HasDistinctStamps other → HaveSameEntries one other → AgreeOn pack one other
 same_entries pack one other distinct apart same =
     let sent : sent_by (ordered one) ≡ sent_by (ordered other) =
-    same-order (sent_by (ordered one)) (sent_by (ordered other)) (increases-by one (ordered one) (not-twice one distinct) (ordered-ascends one) (ordered-of one)) (increases-by other (ordered other) (not-twice other apart) (ordered-ascends other) (ordered-of other))
-    (λ s. sent-also one other s (λ entry. (same entry).0)) (λ s. sent-also other one s (λ entry. (same entry).1)) in
+    same-order (sent_by (ordered one)) (sent_by (ordered other)) (ordered-increases one distinct) (ordered-increases other apart)
+    (also one other (λ entry. (same entry).0)) (also other one (λ entry. (same entry).1)) in
     let batch : batch_in pack one ≡ batch_in pack other = batch-first pack one ∙ ap (first_batch pack) sent ∙ sym (batch-first pack other) in
     agree pack one other (λ i. filter (λ s. bears_on pack (batch i) s.message) (sent i))
+  where
+    also : (one other : List LogEntry) → ((entry : LogEntry) → Contains one entry → Contains other entry)
+        → (s : Sent) → Contains (sent_by (ordered one)) s → Contains (sent_by (ordered other)) s
+    also one other same s c =
+        Contains-permutation _ _ s (sents-after [] other) (sents-also one other same s (Contains-permutation _ _ s (IsPermutation-sym _ _ (sents-after [] one)) c))

@@ -23,11 +23,6 @@ apart a b other = grind (arith, nat_tests)
 abbrev with : LogEntry → Item → LogEntry
 with entry item = record { sender = entry.sender; item = item }
 
--- a stamp that is none of a log's stands at no place of it
-nowhere : (stamp : ℕ) (log : List LogEntry) → AllByRecursion (λ other. nat_eq stamp other ≡ false) (stamps_of log) → (place : ℕ) → stamp_at log place ≡ Some stamp → ⊥
-nowhere stamp [] all place at = absurd (cc)
-nowhere stamp (entry ∷ log) all place at = grind (arith, nat_tests, nowhere stamp log)
-
 none : (stamp : ℕ) (log : List LogEntry) → ((place : ℕ) → stamp_at log place ≡ Some stamp → ⊥) → AllByRecursion (λ other. nat_eq stamp other ≡ false) (stamps_of log)
 none stamp [] h = tt
 none stamp (entry ∷ log) h = by entry.item (none stamp log (λ place. h (suc place))) h
@@ -36,17 +31,6 @@ none stamp (entry ∷ log) h = by entry.item (none stamp log (λ place. h (suc p
         → ((place : ℕ) → stamp_at (with entry item ∷ log) place ≡ Some stamp → ⊥) → AllByRecursion (λ other. nat_eq stamp other ≡ false) (stamps_of (with entry item ∷ log))
     by (Receipt k reach query) later h = later
     by (Carried k other message) later h = (apart stamp other (λ e. h 0 (ap Some e)), later)
-
--- where stamps are distinct none stands at two places
-pub not-twice : (log : List LogEntry) → HasDistinctStamps log → HasNoStampTwice log
-unfolding IsDistinct
-not-twice [] distinct first second stamp a b = absurd (cc)
-not-twice (entry ∷ log) distinct first second stamp a b = by entry.item (λ apart i j. not-twice log apart i j stamp) distinct first second a b
-  where
-    by : (item : Item) → (IsDistinct nat_eq (stamps_of log) → (i j : ℕ) → stamp_at log i ≡ Some stamp → stamp_at log j ≡ Some stamp → i ≡ j)
-        → IsDistinct nat_eq (stamps_of (with entry item ∷ log)) → (first second : ℕ)
-        → stamp_at (with entry item ∷ log) first ≡ Some stamp → stamp_at (with entry item ∷ log) second ≡ Some stamp → first ≡ second
-    by item later distinct first second a b = grind (arith, nat_tests, nowhere)
 
 -- and where none does they are distinct
 pub distinct-stamps : (log : List LogEntry) → HasNoStampTwice log → HasDistinctStamps log

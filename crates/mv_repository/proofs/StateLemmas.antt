@@ -1,5 +1,5 @@
 -- What a pack is depends on its own entries, the first recall of its batch and the first withdrawal of its product.
-use Rattle.mv_repository.proofs.Words.{◌≡◌, ◌∷◌, ◌++◌, List, [], refl, sym, ◌∙◌, ap, append_assoc, Bool, true, false, cond, Option, Some, None, IfSome, find, fold, map, get_or, list_any, option_or, option_map, PackKey, LogEntry, Placed, stands_before, Ascends, KnownPack, batch_standing, pack_after_item, known_pack_from, known_pack, pack_made_by, FirstStops, first_stops, is_before, standing_at, entry_at, place_of, no_entry, is_upload_of, is_status_of, first_upload, statuses_of, pack_changed, pack_step, pack_grown, arith, nat_tests}
+use Rattle.mv_repository.proofs.Words.{◌≡◌, ◌∷◌, ◌++◌, List, [], refl, sym, ◌∙◌, append_assoc, Bool, true, false, cond, Option, Some, None, IfSome, find, fold, map, get_or, list_any, option_or, option_map, PackKey, LogEntry, Placed, stands_before, Ascends, KnownPack, batch_standing, pack_after_item, known_pack_from, known_pack, pack_made_by, FirstStops, first_stops, is_before, standing_at, entry_at, place_of, no_entry, is_upload_of, is_status_of, first_upload, statuses_of, pack_changed, pack_step, pack_grown, arith, nat_tests}
 use Rattle.mv_repository.proofs.OrderLemmas.{StandsBeforeAll, Stand, find-all}
 
 -- what is found behind y doesn't stand before it
@@ -38,15 +38,7 @@ next-tests stops pack known x = grind (arith, nat_tests)
 fold-held : (stops : FirstStops) (pack : PackKey) (held : KnownPack) (xs : List Placed)
     → fold (next stops pack) (Some held) xs ≡ Some (fold (turn stops pack) held (statuses_of pack xs))
 fold-held stops pack held [] = refl
-fold-held stops pack held (x ∷ xs) =
-    ap (λ o. fold (next stops pack) o xs) (next-tests stops pack (Some held) x)
-    ∙ by (is_upload_of pack x.entry.item) refl (is_status_of pack x.entry.item) refl (λ h. fold-held stops pack h xs)
-  where
-    by : (n : Bool) → is_upload_of pack x.entry.item ≡ n → (s : Bool) → is_status_of pack x.entry.item ≡ s
-        → ((h : KnownPack) → fold (next stops pack) (Some h) xs ≡ Some (fold (turn stops pack) h (statuses_of pack xs)))
-        → fold (next stops pack) (cond n (Some held) (cond s (Some (turn stops pack held x)) (Some held))) xs
-        ≡ Some (fold (turn stops pack) held (cond s (x ∷ statuses_of pack xs) (statuses_of pack xs)))
-    by n e s f r = grind (arith, nat_tests)
+fold-held stops pack held (x ∷ xs) = grind (arith, nat_tests, fold-held stops pack held xs, fold-held stops pack (turn stops pack held x) xs, next-tests)
 
 -- behind its upload, each status counts
 fold-behind : (stops : FirstStops) (pack : PackKey) (birth : Placed) (held : KnownPack) (xs : List Placed) → StandsBeforeAll birth xs

@@ -1,11 +1,11 @@
 -- What a recall and a withdrawal do: their effects, the tables that find the first, and the packs on which they bear.
-use Rattle.mv_repository.proofs.Words.{AreFirstsOf, AreStopsOf, BatchKey, Bool, FirstStops, HasFirst, IfSome, IsShelfOf, Item, KnownPack, List, LogEntry, Option, Own, PackKey, Placed, ShelfTable, Some, Stop, Stops, [], ap, arith, batch_key, bytes_eq, comes_first, common_steps, cond, effect_after, effect_of, entries_before, false, find, first_place, first_stops, first_upload, get_or, is_listed, is_master, is_recall_of, is_recalled_by, is_same_batch, is_status_of, is_stop, is_upload_of, is_withdrawal_of, is_withdrawn_by, lasting_effect, length, life_of, list_any, lists, lookup, made_batch, may_stop, nat_tests, next_by, no_entry, not, option_and_then, option_map, ordered, pack_key, pack_made_by, place_of, recalled_in, rules, same_text, standing_at, statuses_of, stopped_product, sym, take, true, true≢false, withdrawn_in, ℕ, ◌&&◌, ◌+◌, ◌∙◌, ◌∷◌, ◌≡◌}
+use Rattle.mv_repository.proofs.Words.{AreFirstsOf, AreStopsOf, BatchKey, Bool, HasFirst, IfSome, IsShelfOf, Item, List, LogEntry, Option, Own, PackKey, Placed, ShelfTable, Some, Stop, Stops, [], arith, batch_key, bytes_eq, comes_first, common_steps, effect_after, effect_of, entries_before, false, find, first_place, first_stops, first_upload, get_or, is_master, is_recall_of, is_recalled_by, is_same_batch, is_status_of, is_stop, is_upload_of, is_withdrawal_of, is_withdrawn_by, lasting_effect, length, life_of, list_any, lookup, may_stop, nat_tests, next_by, no_entry, not, option_map, ordered, pack_key, place_of, recalled_in, rules, same_text, stopped_product, sym, take, true, true≢false, withdrawn_in, ℕ, ◌+◌, ◌∙◌, ◌∷◌, ◌≡◌}
 use Rattle.mv_repository.proofs.BeforeLemmas.{any-before}
 use Rattle.mv_repository.proofs.KeptLemmas.{life_batch, same_batch, batch-self, text-self}
 use Rattle.mv_repository.proofs.OrderLemmas.{ordered-ascends, ordered-below, still-stand}
 use Rattle.mv_repository.proofs.StateLemmas.{find-stand}
 use Rattle.mv_repository.proofs.StoppedLemmas.{once-all, one-recall, one-withdrawal}
-use Rattle.mv_repository.proofs.TableLemmas.{NamesNone, NoPack, at-newest, earlier, filter-none, find-more, find-none, find-some, log-split, longer, newest, newest-stands, recalls-stay, withdrawals-stay}
+use Rattle.mv_repository.proofs.TableLemmas.{NamesNone, NoPack, at-newest, filter-none, find-more, find-none, find-some, longer, newest, newest-stands, recalls-stay, withdrawals-stay}
 use Rattle.mv_repository.proofs.SerialLemmas.{AreSamePacks, serials-at}
 use Rattle.mv_repository.proofs.UploadedLemmas.{first-effect}
 use Rattle.mv_repository.specs.declared.stops.Stop.TheVariants as stops
@@ -30,27 +30,27 @@ lasting : (f : Placed → Bool) (log : List LogEntry) (entry : LogEntry) (place 
     → first ≡ comes_first (longer log entry) (length log) place → lasting_effect (not first) ≡ lasting_effect (list_any f (entries_before log entry))
 lasting f log entry place first e h = grind (arith, nat_tests, any-before f (newest log entry) (ordered log) (ordered-ascends log) (ordered-below log), first-effect)
 
+recall-effect : (key : BatchKey) (before : List Placed) (sender : ℕ) (item : Item) → is_recall_of key item ≡ true
+    → lasting_effect (is_recalled_by key before) ≡ effect_after before sender item
+recall-effect key before sender item h = search rules
+
+withdrawal-effect : (gtin : List ℕ) (before : List Placed) (sender : ℕ) (item : Item) → is_withdrawal_of gtin item ≡ true
+    → lasting_effect (is_withdrawn_by gtin before) ≡ effect_after before sender item
+withdrawal-effect gtin before sender item h = search rules
+
 stop-effect : (log : List LogEntry) (entry : LogEntry) (tables : Stops) (stop : Stop) (first : Bool) → AreStopsOf log tables → is_stop stop entry.item ≡ true
     → first ≡ comes_first (longer log entry) (length log) (first_place stop tables) → lasting_effect (not first) ≡ effect_of log entry
 stop-effect log entry tables (stops.OfBatch batch) first are e h =
-    lasting (λ placed. is_recall_of batch.now placed.entry.item) log entry (lookup (is_same_batch batch.now) tables.recalls.entries) first (are.recalls.found batch.now) h ∙ by entry.item e
-  where
-    by : (item : Item) → is_recall_of batch.now item ≡ true → lasting_effect (is_recalled_by batch.now (entries_before log entry)) ≡ effect_after (entries_before log entry) entry.sender item
-    by item h1 = search rules
+    lasting (λ placed. is_recall_of batch.now placed.entry.item) log entry (lookup (is_same_batch batch.now) tables.recalls.entries) first (are.recalls.found batch.now) h
+    ∙ recall-effect batch.now (entries_before log entry) entry.sender entry.item e
 stop-effect log entry tables (stops.OfProduct gtin) first are e h =
-    lasting (λ placed. is_withdrawal_of gtin.now placed.entry.item) log entry (lookup (bytes_eq gtin.now) tables.withdrawals.entries) first (are.withdrawals.found gtin.now) h ∙ by entry.item e
-  where
-    by : (item : Item) → is_withdrawal_of gtin.now item ≡ true → lasting_effect (is_withdrawn_by gtin.now (entries_before log entry)) ≡ effect_after (entries_before log entry) entry.sender item
-    by item h1 = search rules
+    lasting (λ placed. is_withdrawal_of gtin.now placed.entry.item) log entry (lookup (bytes_eq gtin.now) tables.withdrawals.entries) first (are.withdrawals.found gtin.now) h
+    ∙ withdrawal-effect gtin.now (entries_before log entry) entry.sender entry.item e
 
 -- an entry of a kind that is not the first of the kind leaves the first
 find-later : (f : Placed → Bool) (log : List LogEntry) (entry : LogEntry) → comes_first (longer log entry) (length log) (option_map place_of (find f (ordered log))) ≡ false
     → find f (ordered (longer log entry)) ≡ find f (ordered log)
-find-later f log entry e = find-more f log entry ∙ by (f (newest log entry)) (find f (ordered log)) (find-stand f (longer log entry) (ordered log) (still-stand log entry)) e
-  where
-    by : (b : Bool) (o : Option Placed) → IfSome o (λ y. get_or (longer log entry) y.place no_entry ≡ y.entry) → comes_first (longer log entry) (length log) (option_map place_of o) ≡ false
-        → cond b (earlier (newest log entry) o) o ≡ o
-    by b o s e = grind (arith, nat_tests, newest-stands)
+find-later f log entry e = grind (arith, nat_tests, find-more, find-stand f (longer log entry) (ordered log) (still-stand log entry), newest-stands)
 
 -- one more of a kind of which each item has one key
 module _ {K : Type 0} (same : K → K → Bool) (is_of : K → Item → Bool) (keys_in : Item → List K) (log : List LogEntry) (entry : LogEntry) (places : List (K × ℕ)) (key : K)
@@ -69,59 +69,25 @@ stop-later : (log : List LogEntry) (entry : LogEntry) (tables : Stops) (stop : S
     → comes_first (longer log entry) (length log) (first_place stop tables) ≡ false → first_stops (ordered (longer log entry)) ≡ first_stops (ordered log)
 stop-later log entry tables (stops.OfBatch batch) are own e =
     let form = recall-form batch.now entry.item own in
-    λ i. record {
-      recall = λ b. first-later is_same_batch is_recall_of recalled_in log entry tables.recalls.entries batch.now (same_batch batch.now) (batch-self batch.now) are.recalls form.0 e b i;
-      withdrawal = λ gtin. find-none (λ placed. is_withdrawal_of gtin placed.entry.item) log entry (form.1 gtin) i;
-    }
+    let later = first-later is_same_batch is_recall_of recalled_in log entry tables.recalls.entries batch.now (same_batch batch.now) (batch-self batch.now) are.recalls form.0 e in
+    λ i. record { recall = λ b. later b i; withdrawal = λ gtin. find-none (λ placed. is_withdrawal_of gtin placed.entry.item) log entry (form.1 gtin) i }
 stop-later log entry tables (stops.OfProduct gtin) are own e =
     let form = withdrawal-form gtin.now entry.item own in
-    λ i. record {
-      recall = λ batch. find-none (λ placed. is_recall_of batch placed.entry.item) log entry (form.1 batch) i;
-      withdrawal = λ g. first-later bytes_eq is_withdrawal_of withdrawn_in log entry tables.withdrawals.entries gtin.now (λ other h. same_text gtin.now other (sym h)) (text-self gtin.now) are.withdrawals form.0 e g i;
-    }
-
--- first stops that stand the same for the batch of a pack
-abbrev IsSameFor : FirstStops → FirstStops → List ℕ → Option Placed → Type 0
-IsSameFor stops stops' gtin birth =
-    IfSome birth (λ (first : Placed). IfSome (pack_made_by first.entry.item) (λ (made : KnownPack). (x : Placed) → standing_at stops' x (batch_key gtin made.batch) ≡ standing_at stops x (batch_key gtin made.batch)))
-
-next-same : (stops stops' : FirstStops) (gtin : List ℕ) (birth : Option Placed) (by x : Placed) → IsSameFor stops stops' gtin birth → next_by stops' gtin birth by x ≡ next_by stops gtin birth by x
-next-same stops stops' gtin birth by x same = grind (arith, nat_tests)
+    let later = first-later bytes_eq is_withdrawal_of withdrawn_in log entry tables.withdrawals.entries gtin.now (λ other h. same_text gtin.now other (sym h)) (text-self gtin.now) are.withdrawals form.0 e in
+    λ i. record { recall = λ batch. find-none (λ placed. is_recall_of batch placed.entry.item) log entry (form.1 batch) i; withdrawal = λ g. later g i }
 
 -- an entry that names no pack, withdraws not the product of a pack, and recalls not its batch
 elsewhere : (log : List LogEntry) (entry : LogEntry) (pack : PackKey) → NamesNone pack entry.item → is_withdrawal_of pack.gtin entry.item ≡ false
     → IfSome (life_batch (life_of pack log)) (λ batch. is_recall_of (batch_key pack.gtin batch) entry.item ≡ false)
     → life_of pack (longer log entry) ≡ life_of pack log
 elsewhere log entry pack names withdrawal recall =
-    let first : first_upload pack (ordered (longer log entry)) ≡ first_upload pack (ordered log) = find-none (λ placed. is_upload_of pack placed.entry.item) log entry names.0 in
-    let own : statuses_of pack (ordered (longer log entry)) ≡ statuses_of pack (ordered log) = filter-none (λ placed. is_status_of pack placed.entry.item) log entry names.1 in
-    (λ i. record { birth = first i; statuses = own i; next = next_by now pack.gtin (first i) })
-    ∙ (λ i. record {
-      birth = first_upload pack (ordered log);
-      statuses = statuses_of pack (ordered log);
-      next = λ by x. next-same before now pack.gtin (first_upload pack (ordered log)) by x
-          (same (first_upload pack (ordered log)) recall) i;
-    })
+    let first = find-none (λ placed. is_upload_of pack placed.entry.item) log entry names.0 in
+    let own = filter-none (λ placed. is_status_of pack placed.entry.item) log entry names.1 in
+    λ i. record { birth = first i; statuses = own i; next = λ by x. same by x i }
   where
-    now : FirstStops
-    now = first_stops (ordered (longer log entry))
-
-    before : FirstStops
-    before = first_stops (ordered log)
-
-    stand : (number : List ℕ) → is_recall_of (batch_key pack.gtin number) entry.item ≡ false → (x : Placed) → standing_at now x (batch_key pack.gtin number) ≡ standing_at before x (batch_key pack.gtin number)
-    stand number e x = grind (arith, nat_tests, find-none)
-
-    made : (item : Item) → IfSome (made_batch item) (λ batch. is_recall_of (batch_key pack.gtin batch) entry.item ≡ false)
-        → IfSome (pack_made_by item) (λ (made : KnownPack). (x : Placed) → standing_at now x (batch_key pack.gtin made.batch) ≡ standing_at before x (batch_key pack.gtin made.batch))
-    made item e = grind (arith, nat_tests, stand)
-
-    same : (birth : Option Placed) → IfSome (option_and_then (λ (x : Placed). made_batch x.entry.item) birth) (λ batch. is_recall_of (batch_key pack.gtin batch) entry.item ≡ false) → IsSameFor before now pack.gtin birth
-    same birth h = grind (arith, nat_tests, made)
-
--- what holds of all holds of what there is
-any-some : {A : Type 0} {P : A → Type 0} → (o : Option A) → ((x : A) → P x) → IfSome o P
-any-some o f = grind (arith, nat_tests)
+    same : (by x : Placed) → next_by (first_stops (ordered (longer log entry))) pack.gtin (first_upload pack (ordered (longer log entry))) by x
+        ≡ next_by (first_stops (ordered log)) pack.gtin (first_upload pack (ordered log)) by x
+    same by x = grind (arith, nat_tests, find-none, names.0)
 
 -- the newest entry, by its place
 module _ (whole : List LogEntry) (place : ℕ) (l : length whole ≡ place + 1) where
@@ -167,34 +133,21 @@ module _ (whole : List LogEntry) (place : ℕ) (l : length whole ≡ place + 1) 
   life-away : (stop : Stop) → is_stop stop entry.item ≡ true → (pack : PackKey) → bytes_eq (stopped_product stop) pack.gtin ≡ false → life_of pack whole ≡ life_of pack log
   life-away (stops.OfBatch batch) own pack n =
       let form = recall-form batch.now entry.item own in
-      ap (life_of pack) (log-split whole place l)
-      ∙ elsewhere log entry pack (form.2.0 pack) (form.1 pack.gtin) (any-some (life_batch (life_of pack log)) (λ number. form.0 (batch_key pack.gtin number) ∙ ap (λ t. t && bytes_eq batch.now.batch number) n))
+      at-newest whole place l (λ w n. life_of pack w ≡ life_of pack log) (elsewhere log entry pack (form.2.0 pack) (form.1 pack.gtin) (search rules))
   life-away (stops.OfProduct gtin) own pack n =
       let form = withdrawal-form gtin.now entry.item own in
-      ap (life_of pack) (log-split whole place l)
-      ∙ elsewhere log entry pack (form.2.0 pack) (form.0 pack.gtin ∙ n) (any-some (life_batch (life_of pack log)) (λ number. form.1 (batch_key pack.gtin number)))
+      at-newest whole place l (λ w n. life_of pack w ≡ life_of pack log) (elsewhere log entry pack (form.2.0 pack) (form.0 pack.gtin ∙ n) (search rules))
 
   pub stop-away : (stop : Stop) → is_stop stop entry.item ≡ true → (gtin : List ℕ) → bytes_eq (stopped_product stop) gtin ≡ false → AreSamePacks whole log gtin
   stop-away stop own gtin n = (λ serial. life-away stop own (pack_key gtin serial) n, serials-at whole place gtin [] l ((stop-form stop entry.item own).0.2 gtin))
-
-  -- a recall bears on no pack whose track is not listed under its batch
-  pub recall-away : (key : BatchKey) (shelf : ShelfTable) → is_recall_of key entry.item ≡ true → IsShelfOf log key.gtin shelf
-      → (serial : List ℕ) (number : ℕ) → lookup (bytes_eq serial) shelf.slots ≡ Some (Own number) → lists shelf.listing key.batch number ≡ false
-      → life_of (pack_key key.gtin serial) whole ≡ life_of (pack_key key.gtin serial) log
-  recall-away key shelf recall of serial number found none =
-      let form = recall-form key entry.item recall in
-      let pack = pack_key key.gtin serial in
-      ap (life_of pack) (log-split whole place l)
-      ∙ elsewhere log entry pack (form.2.0 pack) (form.1 key.gtin) (other (life_batch (life_of pack log)) (of.packs serial).listed (λ batch. form.0 (batch_key key.gtin batch)))
-    where
-      other : (o : Option (List ℕ)) → IfSome o (λ batch. is_listed shelf.listing (lookup (bytes_eq serial) shelf.slots) batch ≡ true)
-          → ((batch : List ℕ) → is_recall_of (batch_key key.gtin batch) entry.item ≡ is_same_batch key (batch_key key.gtin batch))
-          → IfSome o (λ batch. is_recall_of (batch_key key.gtin batch) entry.item ≡ false)
-      other o h1 h2 = search rules
 
   -- a stop bears on no pack whose track is not one that it may bear on
   pub stop-passes : (stop : Stop) → is_stop stop entry.item ≡ true → (shelf : ShelfTable) → IsShelfOf log (stopped_product stop) shelf
       → (serial : List ℕ) (number : ℕ) → lookup (bytes_eq serial) shelf.slots ≡ Some (Own number) → may_stop shelf.listing stop number ≡ false
       → life_of (pack_key (stopped_product stop) serial) whole ≡ life_of (pack_key (stopped_product stop) serial) log
-  stop-passes (stops.OfBatch batch) own shelf of serial number found none = recall-away batch.now shelf own of serial number found none
+  stop-passes (stops.OfBatch batch) own shelf of serial number found none =
+      let pack = pack_key batch.now.gtin serial in
+      let form = recall-form batch.now entry.item own in
+      let listed = (of.packs serial).listed in
+      at-newest whole place l (λ w n. life_of pack w ≡ life_of pack log) (elsewhere log entry pack (form.2.0 pack) (form.1 batch.now.gtin) (search rules))
   stop-passes (stops.OfProduct gtin) own shelf of serial number found none = absurd (true≢false none)

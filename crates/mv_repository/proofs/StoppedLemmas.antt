@@ -6,11 +6,8 @@ module _ {K : Type 0} (same : K → K → Bool) (keys_in : LogEntry → List K) 
   abbrev before : List K
   before = insert_all same [] (flat_map keys_in log)
 
-  once-more : insert_all same [] (flat_map keys_in (log ++ entry ∷ [])) ≡ fold (insert_key same) before (keys_in entry ++ [])
-  once-more = ap (insert_all same []) (flat_map-append keys_in log (entry ∷ [])) ∙ fold-append (insert_key same) [] (flat_map keys_in log) (keys_in entry ++ [])
-
   pub once-all : (keys : List K) → keys_in entry ≡ keys → insert_all same [] (flat_map keys_in (log ++ entry ∷ [])) ≡ fold (insert_key same) before keys
-  once-all keys e = once-more ∙ ap (fold (insert_key same) before) (append-nil (keys_in entry) ∙ e)
+  once-all keys e = grind (arith, nat_tests, flat_map-append, fold-append, append-nil)
 
 pub no-recall : (item : Item) → ((batch : BatchKey) → is_recall_of batch item ≡ false) → recalled_in item ≡ []
 no-recall (Carried k stamp (Recall key at)) none = absurd (true≢false (sym (batch-self key) ∙ none key))

@@ -1,9 +1,9 @@
 -- What is kept of a pack, and worked out by places in a log, is what the log means.
-use Rattle.mv_repository.proofs.Words.{AllByRecursion, AreBlocks, AreStopsOf, Ascends, BatchKey, BatchStanding, Block, Carried, Effect, FirstStops, IfSome, IsCovered, IsKept, IsTrack, Item, Kept, KnownPack, List, LogEntry, None, Option, PackKey, PartySet, Placed, Some, Status, Stops, [], ap, arith, batch_key, batch_standing, change_effect, common_steps, cond, cond_both, drop, drop-map, effect_after, effect_from, effect_of, effect_on, entries_before, entry_at, false, filter, first_stops, first_upload, fold, get_or, get_or-insert_at, insert, is_active, is_done, is_master, is_same_pack, is_some, is_status_of, is_upload_of, known_pack, length, length-map, length-take-le, life_of, map, message_in, nat_tests, next_by, next_place, no_entry, option_map, option_map_or, ordered, pack_grown, passes, place_of, refl, rules, standing_at, standing_in, stands_before, start_of, statuses_of, stops_in, subst, sym, take, take-map, take_at, track_of, true, true≢false, unwrap_or, uploaded_in, ℕ, ◌<◌, ◌∙◌, ◌∷◌, ◌≡◌, ◌≤◌}
+use Rattle.mv_repository.proofs.Words.{AllByRecursion, AreBlocks, AreStopsOf, Ascends, BatchKey, BatchStanding, Block, Carried, Effect, FirstStops, IfSome, IsCovered, IsKept, IsTrack, Item, Kept, KnownPack, List, LogEntry, None, Option, PackKey, PartySet, Placed, Some, Status, Stops, [], ap, arith, batch_key, batch_standing, change_effect, common_steps, cond, cond_both, drop, drop-map, effect_after, effect_from, effect_of, effect_on, entries_before, entry_at, false, filter, first_stops, first_upload, fold, get_or, get_or-insert_at, insert, is_active, is_done, is_master, is_same_pack, is_status_of, is_upload_of, known_pack, length, length-map, length-take-le, life_of, map, message_in, nat_tests, next_by, next_place, no_entry, option_map, option_map_or, ordered, pack_grown, place_of, refl, rules, standing_at, standing_in, start_of, statuses_of, stops_in, subst, sym, take, take-map, take_at, track_of, true, true≢false, unwrap_or, uploaded_in, ℕ, ◌<◌, ◌∙◌, ◌∷◌, ◌≡◌, ◌≤◌}
 use Rattle.mv_repository.specs.declared.effect.Effect.TheVariants as effects
 use Rattle.mv_repository.proofs.OrderLemmas.{ordered-ascends, ordered-below, ordered-stand, Stand, still-stand}
 use Rattle.mv_repository.proofs.StateLemmas.{entry-stands, map-stands, find-stand}
-use Rattle.mv_repository.proofs.BeforeLemmas.{stays_before, counted, counted-before, find-below, known-before, standing-before}
+use Rattle.mv_repository.proofs.BeforeLemmas.{stays_before, counted, find-below, known-before, standing-before}
 use Rattle.mv_repository.proofs.KeptLemmas.{same_pack}
 use Rattle.mv_repository.proofs.TableLemmas.{longer, newest, newest-stands, filter-ascends, filter-stand, filter-some, find-none, stops-found, stops-stay, StopsNone, put_place}
 use Rattle.mv_repository.proofs.PlaceLemmas.{IsCutFor, place_cut, places_before}
@@ -17,10 +17,6 @@ next-stands : (log : List LogEntry) (stops : FirstStops) (gtin : List ℕ) (birt
 next-stands log stops gtin birth by x b y s =
     cond_both (is_done (effect_on stops gtin (Some birth) by x)) (cond (is_active (standing_in x.entry.item)) birth x) by (Stands log)
     (λ d. cond_both (is_active (standing_in x.entry.item)) birth x (Stands log) (λ a. b) (λ a. s)) (λ d. y)
-
-pub fold-stands : (log : List LogEntry) (stops : FirstStops) (gtin : List ℕ) (birth by : Placed) (xs : List Placed) → Stands log birth → Stands log by → Stand log xs → Stands log (fold (next_by stops gtin (Some birth)) by xs)
-fold-stands log stops gtin first by [] b y s = y
-fold-stands log stops gtin first by (x ∷ xs) b y s = grind (arith, nat_tests, fold-stands log stops gtin first (next_by stops gtin (Some first) by x) xs b (next-stands log stops gtin first by x b y s.0) s.1)
 
 -- a pack that an upload made stands by an entry of the log; the others stand by none
 abbrev pub StandsBy : List LogEntry → Option Placed → Placed → Type 0
@@ -171,15 +167,7 @@ module _ (log : List LogEntry) (entry : LogEntry) (pack : PackKey) (xs : List Pl
       (entry_at whole (fold (next_place whole S pack.gtin (option_map place_of birth)) (unwrap_or (option_map place_of birth) 0) (map place_of xs))) (entry_at whole (length log))
       ≡ effect (pack_grown S pack (counted x birth) xs)
   effect-front None b l = refl
-  effect-front (Some birth) b l =
-      let next = next_by S pack.gtin (Some birth) in
-      let last : entry_at whole (fold (next_place whole S pack.gtin (Some birth.place)) birth.place (map place_of xs)) ≡ fold next birth xs =
-      ap (entry_at whole) (fold-places whole S pack.gtin (Some birth) birth xs (b, b) stand)
-      ∙ entry-stands whole (fold next birth xs) (fold-stands whole S pack.gtin birth birth xs b b stand) in
-      (λ i. effect_on S pack.gtin (Some (entry-stands whole birth b i)) (last i) (entry-stands whole x (newest-stands log entry) i))
-      ∙ ap (λ (o : Option KnownPack). cond (stands_before birth x) (effect o) effects.Unknown) (sym (grown-by S pack birth xs))
-      ∙ ap (λ b. cond b (effect (pack_grown S pack (Some birth) xs)) effects.Unknown) (sym (counted-before x (Some birth) l))
-      ∙ elim (passes x birth) as (λ b. cond (is_some (cond b None (Some birth))) (effect (pack_grown S pack (Some birth) xs)) effects.Unknown ≡ effect (pack_grown S pack (cond b None (Some birth)) xs)) [ true ↦ refl | false ↦ refl ]
+  effect-front (Some birth) b l = grind (arith, nat_tests, entry-stands, fold-places whole S pack.gtin (Some birth) birth xs (b, b) stand, stands-all whole S pack.gtin (Some birth) birth xs (b, b) stand, grown-by, newest-stands)
 
 -- it is what the status does
 pub status-effect : (log : List LogEntry) (entry : LogEntry) (tables : Stops) (pack : PackKey) (front : List ℕ) → AreStopsOf log tables → is_status_of pack entry.item ≡ true
@@ -244,11 +232,7 @@ module _ (log : List LogEntry) (entry : LogEntry) (tables : Stops) (pack : PackK
 
     module _ (stops : AreStopsOf log tables) (own : is_status_of pack entry.item ≡ true) (kept : IsKept (life_of pack log) old) where
       put_newest : IsPut (longer log entry) (length log) → Done (longer log entry) (length log)
-      put_newest p =
-          let parts = place_cut (longer log entry) (length log) old.statuses at p.within p.cut in
-          let front : take at now.statuses ≡ take at old.statuses = ap (take at) p.statuses ∙ take_at (take at old.statuses) (length log ∷ drop at old.statuses) at (length-take-le at old.statuses p.within) in
-          let there : get_or now.statuses at 0 ≡ length log = ap (λ (l : List ℕ). get_or l at 0) p.statuses ∙ get_or-insert_at old.statuses at (length log) 0 p.within in
-          grind (arith, nat_tests, status-effect, track-status)
+      put_newest p = grind (arith, nat_tests, get_or-insert_at, length-take-le, place_cut (longer log entry) (length log) old.statuses at p.within p.cut, status-effect, take_at, track-status)
 
       pub put-status : (whole : List LogEntry) (place : ℕ) → whole ≡ longer log entry → place ≡ length log → IsPut whole place → Done whole place
       put-status whole place e n =

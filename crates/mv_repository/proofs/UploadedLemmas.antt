@@ -1,6 +1,6 @@
 -- Uploads: which packs a log names, and how many of those that an upload names are new.
-use Rattle.mv_repository.proofs.Words.{◌≡◌, ◌+◌, ◌<◌, ◌∷◌, ◌++◌, ◌&&◌, ◌||◌, nat_tests, bytes_eq, ℕ, List, [], length, take, get_or, refl, sym, ◌∙◌, ap, arith, subst, append-nil, length-append, Bool, true, false, cond, not, Option, IfSome, is_some, find, filter, map, or-false, flat_map-append, length-map, take_more, filter-append, list_any-append, is_member-filter, IsEquivalence, same_text, nat_list_eq_equiv, list_any, flat_map, option_map, distinct_count, is_member, Item, Carried, Upload, is_same_pack, pack_key, PackKey, LogEntry, uploaded_in, uploaded_packs, entries_before, Placed, put_in, ordered, has_pack, known_pack, IsUploadOf, first_stops, is_before, place_of, no_entry, comes_first, earlier_place, is_upload_of, first_upload, statuses_of, pack_grown, track_of, and-true, list_any-IsPermutation}
-use Rattle.mv_repository.proofs.BeforeLemmas.{stays_before, counted, counted-before, find-below, known-before, any-find}
+use Rattle.mv_repository.proofs.Words.{◌≡◌, ◌+◌, ◌<◌, ◌∷◌, ◌++◌, ◌&&◌, ◌||◌, nat_tests, bytes_eq, ℕ, List, [], length, take, get_or, refl, sym, ◌∙◌, ap, arith, subst, append-nil, length-append, Bool, true, false, cond, not, Option, is_some, find, filter, map, or-false, flat_map-append, length-map, take_more, filter-append, list_any-append, is_member-filter, IsEquivalence, same_text, nat_list_eq_equiv, list_any, flat_map, option_map, distinct_count, is_member, Item, Carried, Upload, is_same_pack, pack_key, PackKey, LogEntry, uploaded_in, uploaded_packs, entries_before, Placed, put_in, ordered, has_pack, known_pack, IsUploadOf, is_before, place_of, comes_first, earlier_place, is_upload_of, track_of, list_any-IsPermutation}
+use Rattle.mv_repository.proofs.BeforeLemmas.{find-below, known-before, any-find}
 use Rattle.mv_repository.proofs.KeptLemmas.{text-sym}
 use Rattle.mv_repository.proofs.OrderLemmas.{placed_after, put_in-permutes, find-true, ordered-below, still-stand}
 use Rattle.mv_repository.proofs.StateLemmas.{find-stand}
@@ -51,36 +51,23 @@ uploaded-found log pack = grind (arith, nat_tests, any-ordered (is_upload_of pac
 pub first-effect : (f : Placed → Bool) (log : List LogEntry) (entry : LogEntry) (first : Option ℕ) → first ≡ option_map place_of (find f (ordered log))
     → comes_first (longer log entry) (length log) first ≡ not (is_before (find f (ordered log)) (newest log entry))
 first-effect f log entry first e =
-    ap (comes_first (longer log entry) (length log)) e ∙ by (find f (ordered log)) (find-stand f (longer log entry) (ordered log) (still-stand log entry))
-    ∙ ap not (counted-before (newest log entry) (find f (ordered log)) (find-below f (length log) (ordered log) (ordered-below log)))
-  where
-    by : (o : Option Placed) → IfSome o (λ y. get_or (longer log entry) y.place no_entry ≡ y.entry) → comes_first (longer log entry) (length log) (option_map place_of o) ≡ not (is_some (counted (newest log entry) o))
-    by o s = grind (arith, nat_tests, newest-stands)
+    let stand = find-stand f (longer log entry) (ordered log) (still-stand log entry) in
+    let below = find-below f (length log) (ordered log) (ordered-below log) in
+    grind (arith, nat_tests, newest-stands)
 
 -- a pack is absent before the newest entry where that comes before its first upload
 pub absent-before : (log : List LogEntry) (entry : LogEntry) (pack : PackKey)
     → comes_first (longer log entry) (length log) (track_of pack log).birth ≡ not (is_some (known_pack pack (entries_before log entry)))
 absent-before log entry pack =
-    first-effect (λ placed. is_upload_of pack placed.entry.item) log entry (track_of pack log).birth refl
-    ∙ ap not (sym (counted-before (newest log entry) (first_upload pack (ordered log)) (find-below (λ placed. is_upload_of pack placed.entry.item) (length log) (ordered log) (ordered-below log))))
-    ∙ ap not (made (counted (newest log entry) (first_upload pack (ordered log))) (counted-is (newest log entry) (first_upload pack (ordered log)) (find-true (λ y. is_upload_of pack y.entry.item) (ordered log))))
-    ∙ ap (λ o. not (is_some o)) (sym (known-before log entry pack))
-  where
-    counted-is : (x : Placed) (o : Option Placed) → IfSome o (λ y. is_upload_of pack y.entry.item ≡ true) → IfSome (counted x o) (λ y. is_upload_of pack y.entry.item ≡ true)
-    counted-is x o h = grind (arith, nat_tests)
-
-    made : (o : Option Placed) → IfSome o (λ y. is_upload_of pack y.entry.item ≡ true)
-        → is_some o ≡ is_some (pack_grown (first_stops (ordered log)) pack o (filter (stays_before (newest log entry)) (statuses_of pack (ordered log))))
-    made o h = grind (arith, nat_tests)
+    let stand = find-stand (λ placed. is_upload_of pack placed.entry.item) (longer log entry) (ordered log) (still-stand log entry) in
+    let own = find-true (λ y. is_upload_of pack y.entry.item) (ordered log) in
+    grind (arith, nat_tests, known-before, newest-stands)
 
 module _ {K : Type 0} (eq : K → K → Bool) (laws : IsEquivalence eq) where
-  push_member : (xs : List K) (x y : K) → is_member eq (xs ++ y ∷ []) x ≡ (is_member eq xs x || eq x y)
-  push_member xs x y = list_any-append (eq x) xs (y ∷ []) ∙ ap (λ b. is_member eq xs x || b) (or-false (eq x y))
-
   -- one key more, counted once
   pub distinct_push : (xs : List K) (y : K) → distinct_count eq (xs ++ y ∷ []) ≡ distinct_count eq xs + cond (is_member eq xs y) 0 1
   distinct_push [] y = refl
-  distinct_push (x ∷ xs) y = grind (arith, nat_tests, distinct_push xs y, push_member)
+  distinct_push (x ∷ xs) y = grind (arith, nat_tests, distinct_push xs y, list_any-append, or-false)
 
 -- how many of these serial numbers, each counted once, are of packs that no entry makes that stands before the newest
 abbrev pub new_count : List LogEntry → LogEntry → List ℕ → List (List ℕ) → ℕ
@@ -94,7 +81,7 @@ module _ (log : List LogEntry) (entry : LogEntry) (gtin : List ℕ) (serials : L
       → count ≡ new_count log entry gtin (take at serials) → cond is_new (count + 1) count ≡ new_count log entry gtin (take (at + 1) serials)
 
   more_newest : More (longer log entry) (length log)
-  more_newest i count is_new l e h = (λ j. cond ((e ∙ seen) j) (h j + 1) (h j)) ∙ by (has (take i serials) s) (absent s) refl
+  more_newest i count is_new l e h = (λ j. cond ((e ∙ seen) j) (h j + 1) (h j)) ∙ counted-more
       ∙ ap (λ (xs : List (List ℕ)). distinct_count bytes_eq xs) (sym (ap (filter absent) (take_more serials i [] l) ∙ filter-append absent (take i serials) (s ∷ [])))
     where
       s : List ℕ
@@ -125,15 +112,9 @@ module _ (log : List LogEntry) (entry : LogEntry) (gtin : List ℕ) (serials : L
       member : is_member bytes_eq front s ≡ (is_member bytes_eq (take i serials) s && absent s)
       member = is_member-filter nat_list_eq_equiv absent s (λ x e. ap absent (same_text s x (sym e))) (take i serials)
 
-      by : (b c : Bool) → absent s ≡ c → cond (not (has (take i serials) s) && c) (distinct_count bytes_eq front + 1) (distinct_count bytes_eq front)
-          ≡ distinct_count bytes_eq (front ++ cond c (s ∷ []) [])
-      by b false a = grind (arith, nat_tests, append-nil)
-      by b true a =
-          ap (λ t. cond (not t && true) (distinct_count bytes_eq front + 1) (distinct_count bytes_eq front)) (has_is ∙ sym (and-true (is_member bytes_eq (take i serials) s)) ∙ ap (λ t. is_member bytes_eq (take i serials) s && t) (sym a) ∙ sym member)
-          ∙ count_cases (is_member bytes_eq front s) (distinct_count bytes_eq front) ∙ sym (distinct_push bytes_eq nat_list_eq_equiv front s)
-        where
-          count_cases : (t : Bool) (n : ℕ) → cond (not t && true) (n + 1) n ≡ n + cond t 0 1
-          count_cases t n = grind (arith, nat_tests)
+      counted-more : cond (not (has (take i serials) s) && absent s) (distinct_count bytes_eq front + 1) (distinct_count bytes_eq front)
+          ≡ distinct_count bytes_eq (front ++ cond (absent s) (s ∷ []) [])
+      counted-more = grind (arith, nat_tests, append-nil, distinct_push bytes_eq nat_list_eq_equiv front s, has_is, member)
 
   pub new-more : (whole : List LogEntry) (place : ℕ) → whole ≡ longer log entry → place ≡ length log → More whole place
   new-more whole place e n = subst (λ (w : List LogEntry). More w place) (sym e) (subst (λ (m : ℕ). More (longer log entry) m) (sym n) more_newest)
@@ -143,5 +124,4 @@ pub named-longer : (log : List LogEntry) (entry : LogEntry) (whole : List LogEnt
 named-longer log entry whole e = grind (arith, nat_tests, flat_map-append, length-append)
 
 pub named-upload : (gtin : List ℕ) (serials : List (List ℕ)) (item : Item) → IsUploadOf item gtin serials → length (uploaded_in item) ≡ length serials
-named-upload gtin serials (Carried k stamp (Upload named batch expiry national packs)) u = length-map packs (pack_key named) ∙ ap length u.1
-named-upload gtin serials _ u = absurd u
+named-upload gtin serials item u = grind (arith, nat_tests, length-map)

@@ -1,7 +1,6 @@
 -- Fields of an object that are met in any order: its tokens are its members, one after the other.
-use Rattle.mv_json.proofs.Words.{◌≡◌, ◌∙◌, ◌≤◌, ◌<◌, ◌-◌, ℕ, suc, List, [], ◌∷◌, ◌++◌, length, map, ap, sym, subst, refl, arith, Option, Some, All, Contains, ◌≢◌, All-append, All-cons, All-contains, All-map, All-nil, AllByRecursion, BeginWith, Contains-append_left, Contains-append_right, Data, HasMet, HasOnly, IsOneOf, Members, Token, begin_object, converted, end_object, get, get_member, get_or-map, key, keys_of, left, length-map, map-append, member, members, members_end, members_more, no_members, number, number_of, object, of_json, of_members, parse_map, put, skip_value-shorter, string, unsigned, value, value-begin_object, value_is}
+use Rattle.mv_json.proofs.Words.{◌≡◌, ◌∙◌, ◌≤◌, ◌<◌, ◌-◌, ℕ, suc, List, [], ◌∷◌, ◌++◌, length, map, ap, sym, subst, refl, arith, Option, Some, All, Contains, ◌≢◌, All-contains, All-map, All-push, Contains-push, AllByRecursion, BeginWith, Contains-append_left, Data, HasMet, HasOnly, IsOneOf, Members, Token, begin_object, converted, end_object, get, get_member, get_or-map, key, keys_of, left, length-map, map-append, member, members, members_end, members_more, no_members, number, number_of, object, of_json, of_members, put, skip_value-shorter, string, unsigned, value, value-begin_object, value_is}
 use Rattle.serde_json.proofs.Views.{get_member-put, get_member-put_other}
-use Rattle.json.specs.Json as json
 use Rattle.json.specs.Token as token
 
 -- ---- the grammar, a turn at a time, under the conversion to values
@@ -11,14 +10,6 @@ pub converted_some : {A B : Type 0} (f : A → Option B) (o : Option (A × List 
     → converted f o ≡ Some (b, r) → (a : A) × (o ≡ Some (a, r)) × (f a ≡ Some b)
 converted_some f o b r e = grind arith
 
-converted_object : (o : Option (json.Members × List Token))
-    → converted of_json (parse_map json.object o) ≡ parse_map object (converted (λ ms. of_members ms no_members) o)
-converted_object o = grind arith
-
-with_member : (k : List ℕ) (j : json.Json) (d : Data) (old : Members) → of_json j ≡ Some d → (o : Option (json.Members × List Token))
-    → converted (λ ms. of_members ms old) (parse_map (json.member k j) o) ≡ converted (λ ms. of_members ms (put k d old)) o
-with_member k j d old e o = grind arith
-
 -- ---- tokens
 
 -- the object that members are put into, as far as the tokens were read
@@ -27,10 +18,6 @@ ComeTo deep start found rest =
     (depth : ℕ) → deep ≤ depth → (turns : ℕ) × (length rest ≤ turns)
     × (converted (λ ms. of_members ms no_members) (members (value depth) (length start) start)
     ≡ converted (λ ms. of_members ms found) (members (value depth) turns rest))
-
--- nothing was read
-pub come_nowhere : (deep : ℕ) (start : List Token) → ComeTo deep start no_members start
-come_nowhere deep start depth h = (length start, omega arith, refl)
 
 -- a value takes tokens
 pub begun_shorter : (deep : ℕ) (ts rest : List Token) (found : Data) → BeginWith deep ts found rest → length rest < length ts
@@ -42,22 +29,16 @@ pub come_on : (deep : ℕ) (start more rest : List Token) (name : List ℕ) (fou
     → ComeTo deep start found (key name ∷ more) → BeginWith deep more part rest → ComeTo deep start (put name part found) rest
 come_on deep start more rest name found part come begins depth h =
     let (turns, enough, so_far) = come depth h in
-    let parsed = converted_some of_json (value depth more) part rest (begins depth h) in
-    let shorter = skip_value-shorter depth more rest (ap left parsed.1) in (
-      turns - 1,
-      omega arith,
-      so_far ∙ ap (converted (λ ms. of_members ms found)) (members_more (value depth) turns name (key name ∷ more) more rest parsed.0 (omega arith) refl parsed.1)
-          ∙ with_member name parsed.0 part found parsed.2 _,
-    )
+    let (parsed, is, reads) = converted_some of_json (value depth more) part rest (begins depth h) in
+    let shorter = skip_value-shorter depth more rest (ap left is) in
+    (turns - 1, omega arith, grind (arith, members_more (value depth) turns name (key name ∷ more) more rest parsed (omega arith) refl is))
 
 -- the object ended
 pub come_through : (deep : ℕ) (start rest : List Token) (found : Members)
     → ComeTo deep start found (end_object ∷ rest) → BeginWith (suc deep) (begin_object ∷ start) (object found) rest
 come_through deep start rest found come depth h =
     let (turns, enough, so_far) = come (depth - 1) (omega arith) in
-    ap (converted of_json) (value-begin_object depth start (omega arith))
-    ∙ converted_object (members (value (depth - 1)) (length start) start)
-    ∙ ap (parse_map object) (so_far ∙ ap (converted (λ ms. of_members ms found)) (members_end (value (depth - 1)) turns (end_object ∷ rest) rest enough refl))
+    grind (arith, members_end (value (depth - 1)) turns (end_object ∷ rest) rest enough refl, value-begin_object depth start (omega arith))
 
 -- a text, wherever it stands
 pub text_begins : (deep : ℕ) (text : List ℕ) (rest : List Token) → BeginWith deep (token.string text ∷ rest) (string text) rest
@@ -90,35 +71,26 @@ pub record AreMet {Met : Type 0} (name : Met → List ℕ) (Says : Data → Met 
 
 -- nothing was met
 pub none_met : {Met : Type 0} (name : Met → List ℕ) (Says : Data → Met → Type 0) (deep : ℕ) (start : List Token) → AreMet name Says deep start [] start
-none_met name Says deep start = record { members = no_members; come = come_nowhere deep start; says = grind arith; only = tt }
-
-says_more : {Met : Type 0} (name : Met → List ℕ) (Says : Data → Met → Type 0) (old : List Met) (met : Met) (found : Data) (ms : Members) → Says found met
-    → All (λ other. name other ≢ name met) old → All (λ met. (part : Data) × (get_member (name met) ms ≡ Some part) × Says part met) old
-    → All (λ other. (part : Data) × (get_member (name other) (put (name met) found ms) ≡ Some part) × Says part other) (old ++ met ∷ [])
-says_more {Met} name Says old met found ms is apart says =
-    let P : Met → Type 0 = λ other. (part : Data) × (get_member (name other) (put (name met) found ms) ≡ Some part) × Says part other in
-    let kept : All P old = λ k d h.
-    let (there, at, so) = says k d h in
-    (there, get_member-put_other _ (name met) found ms (apart k d h) ∙ at, so) in
-    All-append P old (met ∷ []) kept (All-cons P met [] (found, get_member-put (name met) found ms, is) (All-nil P))
-
-only_more : {Met : Type 0} (name : Met → List ℕ) (old : List Met) (met : Met) (found : Data) (ms : Members)
-    → AllByRecursion (Contains (map name old)) (keys_of ms) → AllByRecursion (Contains (map name (old ++ met ∷ []))) (keys_of (put (name met) found ms))
-only_more name old met found ms only =
-    subst (λ names. AllByRecursion (Contains names) (keys_of (put (name met) found ms))) (sym (map-append name old (met ∷ [])))
-    (keys_put (Contains (map name old ++ name met ∷ [])) (name met) found ms (Contains-append_right (map name old) (name met ∷ []) (name met) (0, omega arith, refl))
-    (weaker (Contains (map name old)) (Contains (map name old ++ name met ∷ [])) (λ k h. Contains-append_left (map name old) (name met ∷ []) k h) (keys_of ms) only))
+none_met name Says deep start = record { members = no_members; come = λ depth h. (length start, omega arith, refl); says = grind arith; only = tt }
 
 -- a field more was met
 pub one_more_met : {Met : Type 0} (name : Met → List ℕ) (Says : Data → Met → Type 0) (deep : ℕ) (start more rest : List Token) (old new : List Met) (met : Met) (found : Data)
     → AreMet name Says deep start old (key (name met) ∷ more) → BeginWith deep more found rest → Says found met → (new ≡ old ++ met ∷ []) × All (λ other. name other ≢ name met) old
     → AreMet name Says deep start new rest
-one_more_met name Says deep start more rest old new met found are begins is added = subst (λ all. AreMet name Says deep start all rest) (sym added.0) (record {
-  members = put (name met) found are.members;
-  come = come_on deep start more rest (name met) are.members found are.come begins;
-  says = says_more name Says old met found are.members is added.1 are.says;
-  only = only_more name old met found are.members are.only;
-})
+one_more_met {Met} name Says deep start more rest old new met found are begins is added =
+    let Stands : Met → Type 0 = λ other. (part : Data) × (get_member (name other) (put (name met) found are.members) ≡ Some part) × Says part other in
+    let kept : All Stands old = λ k d h.
+    let (there, at, so) = are.says k d h in
+    (there, get_member-put_other _ (name met) found are.members (added.1 k d h) ∙ at, so) in
+    let before = map name old in
+    let Known : List ℕ → Type 0 = Contains (before ++ name met ∷ []) in
+    let known = weaker (Contains before) Known (Contains-append_left before (name met ∷ [])) (keys_of are.members) are.only in
+    subst (λ all. AreMet name Says deep start all rest) (sym added.0) (record {
+      members = put (name met) found are.members;
+      come = come_on deep start more rest (name met) are.members found are.come begins;
+      says = All-push Stands old met kept (found, get_member-put (name met) found are.members, is);
+      only = rw (map-append name old (met ∷ [])) (keys_put Known (name met) found are.members (Contains-push before (name met)) known);
+    })
 
 -- the object ended
 pub all_met : {Met : Type 0} (name : Met → List ℕ) (Says : Data → Met → Type 0) (deep : ℕ) (start rest : List Token) (all : List Met)
@@ -136,7 +108,7 @@ stands {Met} {name} {Says} {value} {entries} met has at =
     All-contains (λ met. (part : Data) × (get (name met) value ≡ Some part) × Says part met) entries met has.says at
 
 named_among : {Field : Type 0} (name : Field → List ℕ) (listed : List Field) (field : Field) → Contains listed field → Contains (map name listed) (name field)
-named_among name listed field at = (at.0, omega (arith, length-map listed name, at.1), get_or-map name listed at.0 field (name field) at.1 ∙ ap name at.2)
+named_among name listed field at = grind (arith, length-map, get_or-map)
 
 -- an object whose fields are all among these has no other key
 pub known_only : {Met Field : Type 0} (name : Field → List ℕ) (field_of : Met → Field) {Says : Data → Met → Type 0} {value : Data} {entries : List Met} (listed : List Field)

@@ -1,16 +1,10 @@
 -- Lists that are sorted, by computing.
 use Rattle.mv_json.proofs.Words.{◌≡◌, true, ◌&&◌, Bool, List, [], ◌∷◌, arith, AllByRecursion, IsStrictlySortedBy, Less, Ordering, is_lt, list_all}
-use Rattle.std.proofs.lemmas.Bool.{and_parts}
-
-is_less : (order : Ordering) → is_lt order ≡ true → order ≡ Less
-is_less order h = grind arith
 
 -- each of these is above x
 all_above : {X : Type 0} (cmp : X → X → Ordering) (x : X) (ys : List X) → list_all (λ y. is_lt (cmp x y)) ys ≡ true → AllByRecursion (λ y. cmp x y ≡ Less) ys
 all_above cmp x [] h = tt
-all_above cmp x (y ∷ ys) h =
-    let parts = and_parts (is_lt (cmp x y)) (list_all (λ y. is_lt (cmp x y)) ys) h in
-    (is_less (cmp x y) parts.0, all_above cmp x ys parts.1)
+all_above cmp x (y ∷ ys) h = grind (arith, all_above cmp x ys)
 
 -- whether each is below all behind it
 unfoldable pub rises : {X : Type 0} → (X → X → Ordering) → List X → Bool
@@ -21,6 +15,4 @@ rises cmp (x ∷ xs) = list_all (λ y. is_lt (cmp x y)) xs && rises cmp xs
 pub strictly_sorted : {X : Type 0} (cmp : X → X → Ordering) (xs : List X) → rises cmp xs ≡ true → IsStrictlySortedBy cmp xs
 unfolding rises IsStrictlySortedBy
 strictly_sorted cmp [] h = tt
-strictly_sorted cmp (x ∷ xs) h =
-    let parts = and_parts (list_all (λ y. is_lt (cmp x y)) xs) (rises cmp xs) h in
-    (all_above cmp x xs parts.0, strictly_sorted cmp xs parts.1)
+strictly_sorted cmp (x ∷ xs) h = grind (arith, all_above, strictly_sorted cmp xs)

@@ -1,7 +1,7 @@
 -- What stands in the fields of a message: its tokens, and what is read of it.
-use Rattle.mv_json.proofs.Words.{◌≡◌, ◌∙◌, ◌≤◌, ℕ, Bool, true, false, List, [], ◌∷◌, ◌++◌, length, map, set, ap, sym, subst, refl, arith, Option, Some, None, Result, Ok, All, Contains, is_some, IsUtf8, ◌≢◌, All-map, All-set, AllByRecursion, BeginWith, BeginWithMessage, BeginWithPart, BeginWithTexts, Data, Entry, Field, HasEntries, IsCode, IsListOf, IsMarket, IsPart, IsPlace, IsTaken, IsThere, Message, PackFault, Token, array, as_bool, as_null, as_str, begin_array, end_array, entry, entry_name, field_name, get, items, key, keys_of, list_at, most_markets, most_serials, of_items, read_bytes, read_code, read_market, strings, there, tokens, value, value-begin_array, value_is, whole_number}
+use Rattle.mv_json.proofs.Words.{IsPlace, IsThere, there, ◌≡◌, ◌∙◌, ◌≤◌, ℕ, Bool, true, false, List, [], ◌∷◌, ◌++◌, length, map, set, ap, sym, subst, refl, arith, Option, Some, None, Result, Ok, All, Contains, is_some, IsUtf8, ◌≢◌, All-map, All-set, AllByRecursion, BeginWith, BeginWithMessage, BeginWithPart, BeginWithTexts, Data, Entry, Field, HasEntries, IsCode, IsListOf, IsMarket, IsPart, IsTaken, Message, PackFault, Token, array, as_bool, as_null, as_str, begin_array, entry, entry_name, field_name, get, items, key, keys_of, list_at, most_markets, most_serials, of_items, read_bytes, read_code, read_market, strings, tokens, value, value-begin_array, value_is, whole_number}
 use Rattle.mv_json.proofs.MetLemmas.{AreMet, one_more_met, weaker}
-use Rattle.mv_json.proofs.ReadingLemmas.{none_named, Inverts, codes_inverted, markets_inverted, list_tells}
+use Rattle.mv_json.proofs.ReadingLemmas.{none_named, Inverts, codes_inverted, markets_inverted, list_agrees}
 use Rattle.mv_json.proofs.ValueLemmas.{utf8_test}
 use Rattle.mv_json.specs.declared.object.Place.{Place}
 use Rattle.mv_json.specs.declared.part.Part.{Part}
@@ -12,42 +12,29 @@ use Rattle.mv_json.specs.declared.part.Part.TheVariants as parts
 
 -- ---- lists of texts
 
-no_item : (depth : ℕ) (rest : List Token) → items (value depth) (length (end_array ∷ rest)) (end_array ∷ rest) ≡ Some (json.no_items, rest)
-unfolding items
-no_item depth rest = refl
+module _ (reader : List ℕ → Result (List ℕ) PackFault) (Holds : List ℕ → Type 0) (good : Inverts reader Holds) where
+  -- texts that a reader takes as they are, up to the end of their list
+  texts_parsed : (ts : List Token) (xs : List (List ℕ)) (rest : List Token) → BeginWithTexts reader ts xs rest
+      → (texts : json.Items) × ((depth : ℕ) → items (value depth) (length ts) ts ≡ Some (texts, rest))
+      × (of_items texts ≡ Some (strings xs)) × AllByRecursion Holds xs
+  unfolding items
+  texts_parsed ts [] rest h = (json.no_items, λ depth. rw h, refl, tt)
+  texts_parsed ts (x ∷ xs) rest (more, (text, is, read), then) =
+      let (texts, parsed, same, hold) = texts_parsed more xs rest then in
+      let (is_text, holds) = rw read at (good.ok text) in (
+        json.item (json.string text) texts,
+        λ depth. rw (is, value_is depth (token.string text ∷ more), parsed depth),
+        rw (same, is_text),
+        (holds, hold),
+      )
 
-one_item : (depth : ℕ) (text : List ℕ) (more rest : List Token) (texts : json.Items) → items (value depth) (length more) more ≡ Some (texts, rest)
-    → items (value depth) (length (token.string text ∷ more)) (token.string text ∷ more) ≡ Some (json.item (json.string text) texts, rest)
-unfolding items
-one_item depth text more rest texts h = rw (value_is depth (token.string text ∷ more), h)
-
--- texts that a reader takes as they are, up to the end of their list
-record TextsParsed (Holds : List ℕ → Type 0) (ts : List Token) (xs : List (List ℕ)) (rest : List Token) : Type 0 where
-  texts : json.Items
-  parsed : (depth : ℕ) → items (value depth) (length ts) ts ≡ Some (texts, rest)
-  is : of_items texts ≡ Some (strings xs)
-  hold : AllByRecursion Holds xs
-
-texts_parsed : (reader : List ℕ → Result (List ℕ) PackFault) (Holds : List ℕ → Type 0) → Inverts reader (λ t. t) Holds → (ts : List Token) (xs : List (List ℕ)) (rest : List Token)
-    → BeginWithTexts reader ts xs rest → TextsParsed Holds ts xs rest
-texts_parsed reader Holds good ts [] rest h = record { texts = json.no_items; parsed = grind (arith, no_item); is = refl; hold = tt }
-texts_parsed reader Holds good ts (x ∷ xs) rest (more, (text, is, read), then) =
-    let others = texts_parsed reader Holds good more xs rest then in
-    record {
-      texts = json.item (json.string text) others.texts;
-      parsed = λ depth. rw is (one_item depth text more rest others.texts (others.parsed depth));
-      is = rw (others.is, (good.ok text x read).0);
-      hold = ((good.ok text x read).1, others.hold);
-    }
-
--- a list of texts, behind the bracket that opens it
-pub listed : (reader : List ℕ → Result (List ℕ) PackFault) (Holds : List ℕ → Type 0) → Inverts reader (λ t. t) Holds → (most : ℕ) (list rest : List Token) (xs : List (List ℕ))
-    → BeginWithTexts reader list xs rest → (1 ≤ length xs) × (length xs ≤ most)
-    → (found : Data) × BeginWith 1 (begin_array ∷ list) found rest × ((found ≡ array (strings xs)) × IsListOf Holds most xs)
-listed reader Holds good most list rest xs has count =
-    let read = texts_parsed reader Holds good list xs rest has in
-    let begins : BeginWith 1 (begin_array ∷ list) (array (strings xs)) rest = grind (arith, read, value-begin_array) in
-    (array (strings xs), begins, (refl, (count.0, count.1, read.hold)))
+  -- a list of texts, behind the bracket that opens it
+  pub listed : (most : ℕ) (list rest : List Token) (xs : List (List ℕ)) → BeginWithTexts reader list xs rest → (1 ≤ length xs) × (length xs ≤ most)
+      → (found : Data) × BeginWith 1 (begin_array ∷ list) found rest × ((found ≡ array (strings xs)) × IsListOf Holds most xs)
+  listed most list rest xs has count =
+      let (texts, parsed, same, hold) = texts_parsed list xs rest has in
+      let begins : BeginWith 1 (begin_array ∷ list) (array (strings xs)) rest = grind (arith, parsed, same, value-begin_array) in
+      (array (strings xs), begins, (refl, (count.0, count.1, hold)))
 
 -- ---- names
 
@@ -107,13 +94,13 @@ pub markets_taken : (value : Data) (old new : List Entry) (field : Field) (x : _
     → (list_at read_market most_markets field value ≡ Ok x.items) × HasEntries value new
 markets_taken value old new field x has taken =
     let ((found, at, (is, hold)), left) = part_taken value old new field (parts.Markets x) has taken (λ found is. (strings x.items, is.0)) in
-    ((list_tells read_market IsMarket markets_inverted most_markets field).read value x.items (at ∙ ap (λ d. Some d) is, hold), left)
+    ((list_agrees read_market IsMarket markets_inverted most_markets value field).read x.items (at ∙ ap (λ d. Some d) is, hold), left)
 
 pub serials_taken : (value : Data) (old new : List Entry) (field : Field) (x : _) → HasEntries value old → IsTaken old field (parts.Serials x) new
     → (list_at read_code most_serials field value ≡ Ok x.items) × HasEntries value new
 serials_taken value old new field x has taken =
     let ((found, at, (is, hold)), left) = part_taken value old new field (parts.Serials x) has taken (λ found is. (strings x.items, is.0)) in
-    ((list_tells read_code IsCode codes_inverted most_serials field).read value x.items (at ∙ ap (λ d. Some d) is, hold), left)
+    ((list_agrees read_code IsCode codes_inverted most_serials value field).read x.items (at ∙ ap (λ d. Some d) is, hold), left)
 
 -- ---- fields that are not there
 

@@ -1,5 +1,5 @@
 -- The values of messages: how deep they nest, their keys in byte order, and their canonical text, which is read as them.
-use Rattle.mv_json.proofs.Words.{◌≡◌, ◌≤◌, ℕ, sym, arith, rules, true, List, [], ◌∷◌, ap, refl, ◌∙◌, ◌<◌, ◌^◌, max, append-nil, option_map, IsUtf8, Some, None, Ok, Data, Found, HasWords, IsLegal, IsUtf8-from_is_utf8, Message, One, PackKey, Two, Version, compact_text, found_value, found_version, is_utf8-from_IsUtf8, item, items_outline, max_depth, of_items, of_json, outline, print-outline, read, read_bytes, string, strings, tokens, tokens_of, value_in, value_of}
+use Rattle.mv_json.proofs.Words.{◌≡◌, ◌≤◌, ℕ, sym, arith, rules, List, [], ◌∷◌, ap, refl, ◌∙◌, ◌<◌, ◌^◌, max, append-nil, option_map, IsUtf8, Some, None, Ok, Data, Found, HasWords, IsLegal, Message, One, PackKey, Two, Version, compact_text, found_value, found_version, item, items_outline, max_depth, of_items, of_json, outline, print-outline, read, read_bytes, string, strings, tokens, tokens_of, value_in, value_of}
 use Rattle.json.proofs.Printed.Decimals.{IsNumber-decimal}
 use Rattle.json.proofs.Printed.Tokens.{tokens-print}
 use Rattle.json.proofs.Printed.Trees.{value-json_tokens, ArePrintable-json_tokens}
@@ -7,7 +7,7 @@ use Rattle.mv_json.proofs.OrderLemmas.{rises, strictly_sorted}
 use Rattle.mv_json.proofs.ReadsLemmas.{reads_back}
 use Rattle.mv_json.specs.Keys.{KeysAscend, ItemsKeysAscend}
 use Rattle.serde_json.proofs.Numbers.{number_of-decimal}
-use Rattle.std.specs.Str.{is_utf8}
+pub use Rattle.std.proofs.lemmas.Str.{IsUtf8-from_is_utf8 as utf8_fact, is_utf8-from_IsUtf8 as utf8_test}
 use Rattle.json.specs.Tree as tree
 use Rattle.mv_message.specs.declared.message.Message.TheVariants as messages
 
@@ -23,14 +23,6 @@ value_depth : (m : Message) → tree.depth (outline (value_of m)) ≤ max_depth
 value_depth (messages.Upload gtin batch expiry None serials) = omega (arith, items_flat)
 value_depth (messages.Answer asker q key found) = answer_depth (found_version found) asker q key found
 value_depth m = omega (arith, items_flat)
-
--- bytes that are text pass the test
-pub utf8_test : (bytes : List ℕ) → IsUtf8 bytes → is_utf8 bytes ≡ true
-utf8_test bytes = is_utf8-from_IsUtf8 bytes
-
--- bytes that pass the test are text
-pub utf8_fact : (bytes : List ℕ) → is_utf8 bytes ≡ true → IsUtf8 bytes
-utf8_fact bytes = IsUtf8-from_is_utf8 bytes
 
 -- ---- the keys of the values of messages stand in byte order
 

@@ -34,7 +34,7 @@ pub(crate) enum Said<'a> {
 }
 
 /// Writes the object of these members, which stand in byte order of their names.
-#[tactic(auto, unfolding(crate::specs::inside::Tokens::PutsValue))]
+#[tactic(auto, using(crate::proofs::TokenLemmas::members_are, std::proofs::lemmas::Grind::common_steps), unfolding(crate::specs::inside::Tokens::PutsValue))]
 pub(crate) fn put_object(
     writer: &mut Writer,
     members: &[(Field, Said<'_>)],

@@ -19,32 +19,110 @@ pub(crate) fn put_message(writer: &mut Writer, message: &Message) -> Result<(), 
     ensures { PutsValue result writer.old writer.new (value_of message.now) }
 {
     match message {
-        Message::Master { gtin, product } => put_master(writer, gtin, product.get()),
+        Message::Master { gtin, product } => {
+            let product = product.get();
+            let members = [
+                (Field::Common, Said::Text(product.common.as_str())),
+                (Field::Form, Said::Text(product.form.as_str())),
+                (Field::Gtin, Said::Text(gtin.as_str())),
+                (Field::Markets, Said::Markets(product.markets.as_slice())),
+                (Field::Msg, Said::Text("master")),
+                (Field::Name, Said::Text(product.name.as_str())),
+                (Field::PackSize, Said::Text(product.pack_size.as_str())),
+                (Field::PackType, Said::Text(product.pack_type.as_str())),
+                (Field::Scheme, Said::Text(product.scheme.as_str())),
+                (Field::Strength, Said::Text(product.strength.as_str())),
+            ];
+            put_object(writer, &members)
+        }
         Message::Upload {
             gtin,
             batch,
             expiry,
             national,
             serials,
-        } => put_upload(writer, gtin, batch, expiry, national, serials),
-        Message::Status { key, to, user, at } => put_status(writer, key, *to, user, *at),
-        Message::Recall { key, at } => put_recall(writer, key, *at),
+        } => {
+            let Some(number) = national else {
+                let members = [
+                    (Field::Batch, Said::Text(batch.as_str())),
+                    (Field::Expiry, Said::Expiry(expiry)),
+                    (Field::Gtin, Said::Text(gtin.as_str())),
+                    (Field::Msg, Said::Text("upload")),
+                    (Field::Serials, Said::Serials(serials.as_slice())),
+                ];
+                return put_object(writer, &members);
+            };
+            let members = [
+                (Field::Batch, Said::Text(batch.as_str())),
+                (Field::Expiry, Said::Expiry(expiry)),
+                (Field::Gtin, Said::Text(gtin.as_str())),
+                (Field::Msg, Said::Text("upload")),
+                (Field::National, Said::Text(number.as_str())),
+                (Field::Serials, Said::Serials(serials.as_slice())),
+                (Field::V, Said::Whole(2)),
+            ];
+            put_object(writer, &members)
+        }
+        Message::Status { key, to, user, at } => {
+            let members = [
+                (Field::At, Said::Whole(at.seconds())),
+                (Field::Gtin, Said::Text(key.gtin.as_str())),
+                (Field::Msg, Said::Text("status")),
+                (Field::Serial, Said::Text(key.serial.as_str())),
+                (Field::To, Said::Text(to.name())),
+                (Field::User, Said::Text(user.as_str())),
+            ];
+            put_object(writer, &members)
+        }
+        Message::Recall { key, at } => {
+            let members = [
+                (Field::At, Said::Whole(at.seconds())),
+                (Field::Batch, Said::Text(key.batch.as_str())),
+                (Field::Gtin, Said::Text(key.gtin.as_str())),
+                (Field::Msg, Said::Text("recall")),
+            ];
+            put_object(writer, &members)
+        }
         Message::Repack {
             before,
             before_serials,
             after,
             after_serials,
             at,
-        } => put_repack(
-            writer,
-            before.get(),
-            before_serials,
-            after.get(),
-            after_serials,
-            *at,
-        ),
-        Message::Withdraw { gtin, at } => put_withdraw(writer, gtin, *at),
-        Message::Query { key } => put_query(writer, key),
+        } => {
+            let (before, after) = (before.get(), after.get());
+            let members = [
+                (Field::AfterBatch, Said::Text(after.batch.as_str())),
+                (Field::AfterGtin, Said::Text(after.gtin.as_str())),
+                (Field::AfterSerials, Said::Serials(after_serials.as_slice())),
+                (Field::At, Said::Whole(at.seconds())),
+                (Field::BeforeBatch, Said::Text(before.batch.as_str())),
+                (Field::BeforeGtin, Said::Text(before.gtin.as_str())),
+                (
+                    Field::BeforeSerials,
+                    Said::Serials(before_serials.as_slice()),
+                ),
+                (Field::Msg, Said::Text("repack")),
+            ];
+            put_object(writer, &members)
+        }
+        Message::Withdraw { gtin, at } => {
+            let members = [
+                (Field::At, Said::Whole(at.seconds())),
+                (Field::Gtin, Said::Text(gtin.as_str())),
+                (Field::Msg, Said::Text("withdraw")),
+                (Field::V, Said::Whole(2)),
+            ];
+            put_object(writer, &members)
+        }
+        Message::Query { key } => {
+            let members = [
+                (Field::Gtin, Said::Text(key.gtin.as_str())),
+                (Field::Msg, Said::Text("query")),
+                (Field::Serial, Said::Text(key.serial.as_str())),
+            ];
+            put_object(writer, &members)
+        }
         Message::Answer {
             asker,
             q,
@@ -52,153 +130,6 @@ pub(crate) fn put_message(writer: &mut Writer, message: &Message) -> Result<(), 
             found,
         } => put_answer(writer, *asker, *q, key, found),
     }
-}
-
-/// Writes a product master.
-fn put_master<'a>(
-    writer: &mut Writer,
-    gtin: &'a Gtin,
-    product: &'a Product,
-) -> Result<(), AllocError>
-    ensures { PutsValue result writer.old writer.new (value_of (Message.Master gtin.now product.now)) }
-{
-    let members = [
-        (Field::Common, Said::Text(product.common.as_str())),
-        (Field::Form, Said::Text(product.form.as_str())),
-        (Field::Gtin, Said::Text(gtin.as_str())),
-        (Field::Markets, Said::Markets(product.markets.as_slice())),
-        (Field::Msg, Said::Text("master")),
-        (Field::Name, Said::Text(product.name.as_str())),
-        (Field::PackSize, Said::Text(product.pack_size.as_str())),
-        (Field::PackType, Said::Text(product.pack_type.as_str())),
-        (Field::Scheme, Said::Text(product.scheme.as_str())),
-        (Field::Strength, Said::Text(product.strength.as_str())),
-    ];
-    put_object(writer, &members)
-}
-
-/// Writes an upload: of version 2 where it has a national number.
-fn put_upload<'a>(
-    writer: &mut Writer,
-    gtin: &'a Gtin,
-    batch: &'a Batch,
-    expiry: &'a Expiry,
-    national: &'a Option<National>,
-    serials: &'a Serials,
-) -> Result<(), AllocError>
-    ensures { PutsValue result writer.old writer.new
-        (value_of (Message.Upload gtin.now batch.now expiry.now national.now serials.now)) }
-{
-    let Some(number) = national else {
-        let members = [
-            (Field::Batch, Said::Text(batch.as_str())),
-            (Field::Expiry, Said::Expiry(expiry)),
-            (Field::Gtin, Said::Text(gtin.as_str())),
-            (Field::Msg, Said::Text("upload")),
-            (Field::Serials, Said::Serials(serials.as_slice())),
-        ];
-        return put_object(writer, &members);
-    };
-    let members = [
-        (Field::Batch, Said::Text(batch.as_str())),
-        (Field::Expiry, Said::Expiry(expiry)),
-        (Field::Gtin, Said::Text(gtin.as_str())),
-        (Field::Msg, Said::Text("upload")),
-        (Field::National, Said::Text(number.as_str())),
-        (Field::Serials, Said::Serials(serials.as_slice())),
-        (Field::V, Said::Whole(2)),
-    ];
-    put_object(writer, &members)
-}
-
-/// Writes a change of standing.
-#[tactic(auto, using(crate::proofs::TokenLemmas::value_named))]
-fn put_status<'a>(
-    writer: &mut Writer,
-    key: &'a PackKey,
-    to: Standing,
-    user: &'a Text,
-    at: Moment,
-) -> Result<(), AllocError>
-    ensures { PutsValue result writer.old writer.new (value_of (Message.Status key.now to user.now at)) }
-{
-    let members = [
-        (Field::At, Said::Whole(at.seconds())),
-        (Field::Gtin, Said::Text(key.gtin.as_str())),
-        (Field::Msg, Said::Text("status")),
-        (Field::Serial, Said::Text(key.serial.as_str())),
-        (Field::To, Said::Text(to.name())),
-        (Field::User, Said::Text(user.as_str())),
-    ];
-    put_object(writer, &members)
-}
-
-/// Writes a recall.
-fn put_recall(writer: &mut Writer, key: &BatchKey, at: Moment) -> Result<(), AllocError>
-    ensures { PutsValue result writer.old writer.new (value_of (Message.Recall key.now at)) }
-{
-    let members = [
-        (Field::At, Said::Whole(at.seconds())),
-        (Field::Batch, Said::Text(key.batch.as_str())),
-        (Field::Gtin, Said::Text(key.gtin.as_str())),
-        (Field::Msg, Said::Text("recall")),
-    ];
-    put_object(writer, &members)
-}
-
-/// Writes a repackaging.
-#[tactic(auto, using(crate::proofs::TokenLemmas::value_named))]
-fn put_repack<'a>(
-    writer: &mut Writer,
-    before: &'a BatchKey,
-    before_serials: &'a Serials,
-    after: &'a BatchKey,
-    after_serials: &'a Serials,
-    at: Moment,
-) -> Result<(), AllocError>
-    ensures { PutsValue result writer.old writer.new
-        (value_of (Message.Repack before.now before_serials.now after.now after_serials.now at)) }
-{
-    let members = [
-        (Field::AfterBatch, Said::Text(after.batch.as_str())),
-        (Field::AfterGtin, Said::Text(after.gtin.as_str())),
-        (Field::AfterSerials, Said::Serials(after_serials.as_slice())),
-        (Field::At, Said::Whole(at.seconds())),
-        (Field::BeforeBatch, Said::Text(before.batch.as_str())),
-        (Field::BeforeGtin, Said::Text(before.gtin.as_str())),
-        (
-            Field::BeforeSerials,
-            Said::Serials(before_serials.as_slice()),
-        ),
-        (Field::Msg, Said::Text("repack")),
-    ];
-    put_object(writer, &members)
-}
-
-/// Writes a withdrawal.
-#[tactic(auto, unfolding(crate::specs::inside::Tokens::PutsValue))]
-fn put_withdraw(writer: &mut Writer, gtin: &Gtin, at: Moment) -> Result<(), AllocError>
-    ensures { PutsValue result writer.old writer.new (value_of (Message.Withdraw gtin.now at)) }
-{
-    let members = [
-        (Field::At, Said::Whole(at.seconds())),
-        (Field::Gtin, Said::Text(gtin.as_str())),
-        (Field::Msg, Said::Text("withdraw")),
-        (Field::V, Said::Whole(2)),
-    ];
-    put_object(writer, &members)
-}
-
-/// Writes a query.
-fn put_query(writer: &mut Writer, key: &PackKey) -> Result<(), AllocError>
-    ensures { PutsValue result writer.old writer.new (value_of (Message.Query key.now)) }
-{
-    let members = [
-        (Field::Gtin, Said::Text(key.gtin.as_str())),
-        (Field::Msg, Said::Text("query")),
-        (Field::Serial, Said::Text(key.serial.as_str())),
-    ];
-    put_object(writer, &members)
 }
 
 /// Writes an answer: of the version that says all of what was found.

@@ -46,7 +46,6 @@ too_long begun part count unended few short over =
 pub absent_unended : (xs : List ℕ) → IsFirstByte (is_byte 10) xs None → IsUnended xs
 absent_unended xs absent = λ k within feed. absent k (omega arith) within (eq-eqb (get_or xs k 0) 10 feed)
 
--- and so is one that ends by that list; `later` are all the bytes behind the line feed
-pub cut_line : (front xs later all : List ℕ) (i : ℕ) → IsFirstByte (is_byte 10) xs (Some i) → later ≡ take (length xs - (i + 1)) (drop (i + 1) xs)
-    → all ≡ front ++ xs → all ≡ front ++ ((take i xs ++ 10 ∷ []) ++ later)
-cut_line front xs later all i (first, feed) rest whole = grind (arith, nat_tests, common_steps)
+-- where one is found, it ends the bytes before it
+pub cut_line : (xs : List ℕ) (i : ℕ) → IsFirstByte (is_byte 10) xs (Some i) → xs ≡ take i xs ++ 10 ∷ take (length xs - (i + 1)) (drop (i + 1) xs)
+cut_line xs i (first, feed) = grind (arith, nat_tests, common_steps)

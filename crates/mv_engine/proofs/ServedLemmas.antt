@@ -1,7 +1,6 @@
 -- Lemmas on what a run over lines has written.
-use Rattle.mv_engine.proofs.Words.{◌≡◌, ℕ, ◌<◌, ◌≤◌, List, [], ◌++◌, length, sym, ◌∙◌, ap, arith, append_assoc, append-nil, length-append, take, subst, Option, Result, OnOk, IfErr, common_steps, nat_tests, Appends, Consumes, Appends-trans, Consumes-trans, ServeFault, Read, Write, Start, whole_from, pieces, unless_empty, Line, line_limit, lines_limit, WrotePart, AreAnswered, TookAtMostOne, StoppedAt, WroteAt, Served, EndedAt, AreWhole, IsAtEnd, Taken, Halted, inl, inr, refl}
+use Rattle.mv_engine.proofs.Words.{◌≡◌, ℕ, ◌<◌, ◌≤◌, List, [], ◌++◌, length, sym, arith, append_assoc, append-nil, length-append, take, subst, Option, Result, OnOk, IfErr, common_steps, nat_tests, Appends, Consumes, Appends-trans, Consumes-trans, ServeFault, Read, Write, Start, whole_from, unless_empty, Line, line_limit, lines_limit, WrotePart, AreAnswered, StoppedAt, WroteAt, Served, EndedAt, AreWhole, IsAtEnd, Taken, Halted, inl, inr, refl}
 use Rattle.mv_engine.proofs.InputLemmas.{whole_from-append, answered_more, stopped_later}
-use Rattle.mv_engine.proofs.RepliesLemmas.{took_later}
 
 -- nothing more was read
 pub read_none : (a b c : Option (List ℕ)) (xs block : List ℕ) (n : ℕ) → Consumes a b xs → Consumes b c (take n block) → n ≡ 0 → Consumes a c xs
@@ -22,56 +21,50 @@ module _ {S : Type 0} (Reply : S → Line → Option (List ℕ) → S → Type 0
   broken came kept ready begun bytes ps count before after old new none answered stopped part = grind (arith, append-nil ps)
 
   -- the replies to a later part of the input broke off
-  wrote_later : (before between after : S) (front begun' out : List ℕ) (count' : ℕ) (ps more all : List (List ℕ)) (a b c : Option (List ℕ)) → Appends a b out
-      → Taken Reply [] 0 before front begun' count' between out → all ≡ (whole_from [] front ++ ps) ++ more → WroteAt Reply count' between ps after b c
+  wrote_later : {before between after : S} {front begun' out : List ℕ} {count' : ℕ} {ps all : List (List ℕ)} (a b c : Option (List ℕ)) → Appends a b out
+      → Taken Reply [] 0 before front begun' count' between out → all ≡ whole_from [] front ++ ps → WroteAt Reply count' between ps after b c
       → WroteAt Reply 0 before all after a c
-  wrote_later before between after front begun' out count' ps more all a b c written taken are broken = let (went, unwritten, is, did) = broken.written in record {
-    first = whole_from [] front ++ broken.first;
-    unanswered = broken.unanswered ++ more;
-    cut = are ∙ ap (λ l. (whole_from [] front ++ l) ++ more) broken.cut ∙ simp append_assoc;
-    ready = out ++ broken.ready;
-    behind = broken.behind;
-    answered = answered_more Reply taken.answered (rw taken.counted at broken.answered);
-    written = (out ++ went, unwritten, ap (λ l. out ++ l) is ∙ sym (append_assoc out went unwritten), Appends-trans a b c out went written did);
-    left = subst (λ n. TookAtMostOne Reply n broken.behind (broken.unanswered ++ more) after) (rw length-append (omega (arith, taken.counted)))
-        (took_later Reply _ broken.behind after broken.unanswered more broken.left);
-  }
+  wrote_later {front = front} {out = out} a b c written taken are broken =
+      let (went, unwritten, is, did) = broken.written in
+      record {
+        first = whole_from [] front ++ broken.first;
+        unanswered = broken.unanswered;
+        cut = grind (arith, append_assoc);
+        ready = out ++ broken.ready;
+        behind = broken.behind;
+        answered = answered_more Reply taken.answered (rw taken.counted at broken.answered);
+        written = (out ++ went, unwritten, grind (arith, append_assoc), Appends-trans a b c out went written did);
+        left = grind (arith, length-append);
+      }
 
   -- the taking of a later part of the input ended, or the writing of the replies to what stands there, and so the run
-  pub halted_later : (fault : ServeFault) (before between after : S) (front back : List ℕ) (begun' out : List ℕ) (count' : ℕ) (ps all : List (List ℕ))
-      (a b c rest : Option (List ℕ)) → Appends a b out → Taken Reply [] 0 before front begun' count' between out
-      → all ≡ (whole_from [] front ++ ps) ++ [] → AreWhole rest (front ++ back) all → Halted Reply fault begun' count' between back ps after b c
-      → EndedAt Reply fault before (front ++ back) rest after a c
-  halted_later Read before between after front back begun' out count' ps all a b c rest written taken are whole (other, went, stopped) = absurd stopped.why
-  halted_later Start before between after front back begun' out count' ps all a b c rest written taken are whole (other, went, stopped) = absurd stopped.why
-  halted_later Write before between after front back begun' out count' ps all a b c rest written taken are whole broken =
-      (all, whole, wrote_later before between after front begun' out count' ps [] all a b c written taken are broken)
-  halted_later fault before between after front back begun' out count' ps all a b c rest written taken are whole (other, went, stopped) = (
-    all,
-    whole,
-    (out ++ other, Appends-trans a b c out other written went, stopped_later Reply fault [] [] (ap (λ l. front ++ l) (sym (append-nil back))) are taken stopped),
-  )
+  pub halted_later : {before between : S} {front begun' out : List ℕ} {count' : ℕ} (fault : ServeFault) (after : S) (back bytes : List ℕ) (ps all : List (List ℕ))
+      (a b c rest : Option (List ℕ)) → Appends a b out → Taken Reply [] 0 before front begun' count' between out → bytes ≡ front ++ back
+      → all ≡ whole_from [] front ++ ps → AreWhole rest bytes all → Halted Reply fault begun' count' between back ps after b c
+      → EndedAt Reply fault before bytes rest after a c
+  halted_later Read after back bytes ps all a b c rest written taken is are whole (other, went, stopped) = absurd stopped.why
+  halted_later Start after back bytes ps all a b c rest written taken is are whole (other, went, stopped) = absurd stopped.why
+  halted_later Write after back bytes ps all a b c rest written taken is are whole broken = (all, whole, wrote_later a b c written taken are broken)
+  halted_later {out = out} fault after back bytes ps all a b c rest written taken is are whole (other, went, stopped) =
+      (all, whole, (out ++ other, Appends-trans a b c out other written went, stopped_later Reply fault is are taken stopped))
 
   -- that of a block
-  pub halted_block : (fault : ServeFault) (before between after : S) (front back begun' out : List ℕ) (count' : ℕ) (a b c rest : Option (List ℕ)) → Appends a b out
+  pub halted_block : {before between : S} {front begun' out : List ℕ} {count' : ℕ} (fault : ServeFault) (after : S) (back : List ℕ) (a b c rest : Option (List ℕ)) → Appends a b out
       → Taken Reply [] 0 before front begun' count' between out → Halted Reply fault begun' count' between back (whole_from begun' back) after b c
       → EndedAt Reply fault before (front ++ back) rest after a c
-  halted_block fault before between after front back begun' out count' a b c rest written taken halted =
-      halted_later fault before between after front back begun' out count' (whole_from begun' back) (whole_from [] (front ++ back)) a b c rest written taken
-      (rw taken.rest (whole_from-append [] front back ∙ sym (append-nil _))) (inl refl) halted
+  halted_block {front = front} fault after back a b c rest written taken halted =
+      halted_later fault after back _ _ _ a b c rest written taken refl (rw taken.rest (whole_from-append [] front back)) (inl refl) halted
 
   -- that of the last line
-  pub halted_last : (fault : ServeFault) (before between after : S) (bytes begun' out : List ℕ) (count' : ℕ) (a b c rest : Option (List ℕ)) → Appends a b out
+  pub halted_last : {before between : S} {bytes begun' out : List ℕ} {count' : ℕ} (fault : ServeFault) (after : S) (a b c rest : Option (List ℕ)) → Appends a b out
       → Taken Reply [] 0 before bytes begun' count' between out → IsAtEnd rest
       → Halted Reply fault begun' count' between [] (unless_empty begun') after b c → EndedAt Reply fault before bytes rest after a c
-  halted_last fault before between after bytes begun' out count' a b c rest written taken at_end halted =
-      subst (λ l. EndedAt Reply fault before l rest after a c) (append-nil bytes)
-      (halted_later fault before between after bytes [] begun' out count' (unless_empty begun') (pieces (bytes ++ [])) a b c rest written taken
-      (ap pieces (append-nil bytes) ∙ rw (← taken.rest) (sym (append-nil _))) (inr (refl, at_end)) halted)
+  halted_last {bytes = bytes} fault after a b c rest written taken at_end halted =
+      halted_later fault after [] bytes _ _ a b c rest written taken (sym (append-nil bytes)) refl (inr (rw taken.rest refl, at_end)) halted
 
   -- the last line is answered, and so the input
-  pub served_whole : (before between after : S) (bytes begun' out other : List ℕ) (count' : ℕ) (a b c : Option (List ℕ)) → Appends a b out
+  pub served_whole : {before between : S} {bytes begun' out other : List ℕ} {count' : ℕ} (after : S) (a b c : Option (List ℕ)) → Appends a b out
       → Taken Reply [] 0 before bytes begun' count' between out → Appends b c other → AreAnswered Reply count' between (unless_empty begun') after other
       → Served Reply before bytes after a c
-  served_whole before between after bytes begun' out other count' a b c written taken more last =
+  served_whole {out = out} {other = other} after a b c written taken more last =
       (out ++ other, Appends-trans a b c out other written more, answered_more Reply taken.answered (rw (taken.rest, taken.counted) at last))

@@ -1,6 +1,6 @@
 //! The line that is being read, and the replies that are still to be written.
 
-ghost use Rattle.std.specs.Prelude.{◌≡◌, ◌+◌, ◌<◌, ◌≤◌, [], ◌∷◌, ◌++◌, length, OnOk, IfErr, vec_items};
+ghost use Rattle.std.specs.Prelude.{◌≡◌, ℕ, ◌+◌, ◌<◌, ◌≤◌, List, [], ◌∷◌, ◌++◌, length, OnOk, IfErr, vec_items};
 ghost use Rattle.std.specs.Io.BufRead.{strip_last};
 ghost use Rattle.mv_engine.specs.Lines.{IsUnended, unless_empty, line_limit, lines_limit, whole_from};
 ghost use Rattle.mv_engine.specs.Replies.{Readied};
@@ -103,10 +103,11 @@ impl Input {
         ensures ok { OnOk result (Readied self.old.replies.items self.new.replies.items (λ out.
             Taken S.replies self.old.begun.items self.old.lines answering.old
             (part.now ++ 10 ∷ []) self.new.begun.items self.new.lines answering.new out)) }
-        ensures err { IfErr result (λ fault.
+        // So it is whatever bytes come behind it.
+        ensures err { IfErr result (λ fault. (tail : List ℕ) →
             Readied self.old.replies.items self.new.replies.items (λ out.
             StoppedAt S.replies fault self.old.begun.items self.old.lines answering.old
-            (part.now ++ 10 ∷ []) (whole_from self.old.begun.items (part.now ++ 10 ∷ [])) answering.new out)) }
+            (part.now ++ 10 ∷ tail) (whole_from self.old.begun.items (part.now ++ 10 ∷ tail)) answering.new out)) }
     {
         self.check_part(part)?;
         if self.lines == LINES_LIMIT {

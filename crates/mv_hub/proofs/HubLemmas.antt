@@ -1,6 +1,5 @@
 -- What the hub keeps, through a routing and a relay.
-use Rattle.mv_hub.proofs.Words.{◌≡◌, ℕ, ◌+◌, ◌<◌, ◌≤◌, Bool, true, false, ◌&&◌, ◌||◌, not, List, [], ◌∷◌, ◌++◌, length, get_or, set, cond, None, sym, refl, ap, ◌∙◌, arith, inl, inr, append-nil, ◌↔◌, length-set, ◌==◌, nat_lt, find, replicate, All, Carries, Closed, Entry, HasRoom, HubState, IsKept, IsRouting, IsSquare, Item, Message, PartySet, PushesItems, PushesRow, Routed, Sending, busy_party, cases_eq, cell, cell-map, elements, eq-eqb, find-none_at, find-those, gain_of, gained, get_or-replicate, get_or_default, has_party, is_busy, is_open, is_query, is_reached, is_target, items_on, length-replicate, link_at, link_items, listed-in, nat_tests, new_hub, new_sending, next_items, parties_in, put, put-map, put-read, reach, routed_count, sent_of, sent_table, table-all, with_relayed}
-use mir.Val.{bool_byte}
+use Rattle.mv_hub.proofs.Words.{◌≡◌, ℕ, ◌+◌, ◌<◌, ◌≤◌, Bool, true, false, ◌&&◌, ◌||◌, not, List, [], ◌∷◌, ◌++◌, length, get_or, set, cond, None, sym, refl, ap, ◌∙◌, arith, inl, inr, append-nil, ◌↔◌, length-set, ◌==◌, nat_lt, find, replicate, All, Carries, Closed, Entry, HasRoom, HubState, IsKept, IsRouting, IsSquare, Item, Message, PartySet, PushesItems, PushesRow, Routed, Sending, busy_party, cases_eq, cell, cell-map, elements, eq-eqb, find-none_at, find-those, gain_of, gained, get_or-replicate, get_or_default, has_party, is_busy, is_open, is_query, is_reached, is_target, items_on, length-replicate, link_at, link_items, listed-in, nat_tests, new_hub, new_sending, next_items, parties_in, put, put-map, reach, routed_count, sent_of, sent_table, table-all, with_relayed}
 use Rattle.mv_link.specs.declared.item.Item.TheVariants.{Receipt, Carried}
 use Rattle.mv_link.specs.declared.limits.TheConstants.{PARTIES_LIMIT}
 use Rattle.mv_hub.specs.declared.hub.routing.Routing.{Routing}
@@ -17,35 +16,20 @@ routed_count_most (Routed from k message ∷ entries) party = grind (arith, rout
 routed_count_most (Closed from to ∷ entries) party = grind (arith, routed_count_most entries party)
 
 -- what the routing of a message puts on a link
-next_items-are : (hub : HubState) (from to : ℕ) (message : Message) → next_items hub from message to
+pub next_items_are : (hub : HubState) (from to : ℕ) (message : Message) → next_items hub from message to
     ≡ cond ((to == from) && is_open hub.entries from from)
     (Receipt (routed_count hub.entries from + 1) (reach hub.parties hub.entries from message) (is_query message) ∷ []) []
     ++ cond (is_reached hub.parties hub.entries from message to)
     (Carried (routed_count hub.entries from + 1) (length hub.entries + 1) message ∷ []) []
 unfolding gained
-next_items-are hub from to message = rw (eq-eqb from from refl)
-
--- and how many items
-pub length_next_items : (hub : HubState) (from to : ℕ) (message : Message) → length (next_items hub from message to)
-    ≡ bool_byte ((to == from) && is_open hub.entries from from) + bool_byte (is_reached hub.parties hub.entries from message to)
-length_next_items hub from to message = grind (arith, next_items-are hub from to message)
-
--- the parties to which a link of one is open
-pub open_at : {parties : List (List (List ℕ))} {window : ℕ} {entries : List Entry} {routed_counts : List ℕ} {open_links : List PartySet}
-    {links : List (List Sending)} (from to : ℕ) (opened : PartySet) → IsKept parties window entries routed_counts open_links links
-    → from < length parties → to < length parties → opened ≡ get_or open_links from opened → has_party opened to ≡ is_open entries from to
-open_at {open_links = open_links} from to opened kept is_from is_to at = grind (arith, get_or_default)
-
--- what is known of a link, by what the hub is seen as
-pub record LinkFacts (hub : HubState) (from to : ℕ) (link : Sending) : Type 0 where
-  pub carries : Carries hub.window (items_on hub from to) link
-  pub sent : link.sent ≡ sent_of hub from to
+next_items_are hub from to message = rw (eq-eqb from from refl)
 
 -- a link is busy exactly where it has no room
 pub busy_is : (hub : HubState) (from to : ℕ) (message : Message) (link : Sending) (count : ℕ)
-    → LinkFacts hub from to link → count ≡ length (next_items hub from message to) → is_busy hub from message to ≡ false ↔ HasRoom link count
+    → Carries hub.window (items_on hub from to) link → link.sent ≡ sent_of hub from to → count ≡ length (next_items hub from message to)
+    → is_busy hub from message to ≡ false ↔ HasRoom link count
 unfolding is_busy
-busy_is hub from to message link count facts e = grind arith
+busy_is hub from to message link count carries sent e = grind arith
 
 -- whom a message reaches, by a set of those that it is for, and one of those to which the link is open
 pub reached_of : (parties : List (List (List ℕ))) (entries : List Entry) (from : ℕ) (message : Message) (targets opened : PartySet) (to : ℕ)
@@ -70,7 +54,7 @@ reach_listed parties entries from message reached few is = grind (arith, listed-
 
 -- what a link gains is what the record will put on it
 pub next-gain : (hub : HubState) (routing : Routing) (to : ℕ) → IsRouting hub routing → gain_of routing to ≡ next_items hub routing.from routing.message.now to
-next-gain hub routing to is = grind (arith, reach_listed, next_items-are)
+next-gain hub routing to is = grind (arith, reach_listed, next_items_are)
 
 -- how many items of a link were relayed
 pub sent_at : (links : List (List Sending)) (from to : ℕ) → cell (sent_table links) from to 0 ≡ (link_at links from to).sent
@@ -82,16 +66,12 @@ carries-gain window items more old new carries gains room = grind arith
 
 module _ {parties : List (List (List ℕ))} {window : ℕ} {entries : List Entry} {routed_counts : List ℕ} {open_links : List PartySet}
     {links : List (List Sending)} (kept : IsKept parties window entries routed_counts open_links links) where
-  pub link_facts : (from to : ℕ) → from < length parties → to < length parties
-      → LinkFacts (view parties window entries links) from to (link_at links from to)
-  link_facts from to is_from is_to = record { carries = kept.carries from to is_from is_to; sent = sym (sent_at links from to) }
-
   -- a link that gains nothing is not busy
   idle : (from to : ℕ) (message : Message) → from < length parties → to < length parties
       → (is_reached parties entries from message to || ((to == from) && is_open entries from from)) ≡ false
       → is_busy (view parties window entries links) from message to ≡ false
   idle from to message is_from is_to none =
-      grind (arith, length_next_items (view parties window entries links) from to message, link_facts, busy_is)
+      grind (arith, next_items_are (view parties window entries links) from to message, kept.carries from to is_from is_to, sent_at links from to, busy_is)
 
   -- so the least busy party is the first of those whose links gain something
   pub busy_among : (from : ℕ) (message : Message) (gaining : PartySet) → from < length parties
@@ -114,7 +94,9 @@ module _ {parties : List (List (List ℕ))} {window : ℕ} {entries : List Entry
       → (to : ℕ) → to < length parties → HasRoom (link_at links from to) (length (next_items (view parties window entries links) from message to))
   unfolding busy_party
   rooms from message is_from none to is_to =
-      grind (arith, busy_is (view parties window entries links) from to message (link_at links from to), link_facts from to is_from is_to, find-none_at (is_busy (view parties window entries links) from message) to (length parties) is_to none)
+      let hub = view parties window entries links in
+      let free = find-none_at (is_busy hub from message) to (length parties) is_to none in
+      grind (arith, busy_is hub from to message (link_at links from to), kept.carries from to is_from is_to, sent_at links from to, free)
 
   -- all that the hub keeps, once a message was routed
   pub kept-routed : (new : List (List Sending)) (from : ℕ) (message : Message) → from < length parties
@@ -122,19 +104,16 @@ module _ {parties : List (List (List ℕ))} {window : ℕ} {entries : List Entry
       → PushesRow (length parties) from (next_items (view parties window entries links) from message) links new
       → IsKept parties window (entries ++ Routed from (routed_count entries from + 1) message ∷ []) (set routed_counts from (routed_count entries from + 1)) open_links new
   kept-routed new from message lt none row =
-      let k = routed_count entries from + 1 in
-      let entry = Routed from k message in
       record {
         some = kept.some;
         few = kept.few;
-        counted = length-set routed_counts from k ∙ kept.counted;
+        counted = grind (arith, length-set);
         counts = grind (arith, elements, routed_from-append);
         opened = kept.opened;
-        opens = λ a b is_a is_b. kept.opens a b is_a is_b ∙ grind (arith, is_open-append entries (entry ∷ []) a b);
+        opens = λ a b none is_a is_b. grind (arith, kept.opens a b none is_a is_b, is_open-append);
         square = row.square;
         carries = λ party to is_party is_to. elim (cases_eq party from) [
-          | inl same ↦ rw (same, link_items-push)
-              (carries-gain window _ _ _ _ (kept.carries from to lt is_to) (row.gained to is_to) (rooms from message lt none to is_to))
+          | inl same ↦ grind (arith, carries-gain, link_items-push, kept.carries from to lt is_to, row.gained to is_to, rooms from message lt none to is_to)
           | inr other ↦ grind (arith, row.others party to other, link_items-push, gained_other, append-nil {A = Item}, kept.carries party to is_party is_to)
         ];
       }
@@ -145,12 +124,7 @@ module _ {parties : List (List (List ℕ))} {window : ℕ} {entries : List Entry
       → IsKept parties window (entries ++ Closed from to ∷ []) routed_counts (set open_links from rest) links
   kept_closed from to opened rest is_from at without = grind (arith, get_or_default, routed_from-append, Closed, append-nil, elements, is_open-append, link_items-push, gained-closed)
 
--- a link that is written as it was changes nothing
-pub view_put_back : (parties : List (List (List ℕ))) (window : ℕ) (entries : List Entry) (links : List (List Sending)) (from to : ℕ) (new old : Sending)
-    → cell links from to (new_sending 0) ≡ old → new ≡ old → view parties window entries (put links from to new) ≡ view parties window entries links
-view_put_back parties window entries links from to new old at same = grind (arith, put-read)
-
--- and what the hub is seen as, once an item was relayed
+-- what the hub is seen as, once an item was relayed
 pub view_relayed : (parties : List (List (List ℕ))) (window : ℕ) (entries : List Entry) (links : List (List Sending)) (from to : ℕ) (new : Sending)
     → new.sent ≡ (link_at links from to).sent + 1
     → view parties window entries (put links from to new) ≡ with_relayed (view parties window entries links) from to

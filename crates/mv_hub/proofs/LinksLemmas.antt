@@ -1,30 +1,26 @@
 -- Links that gain items.
-use Rattle.mv_hub.proofs.Words.{◌≡◌, ℕ, ◌<◌, ◌&&◌, not, true, List, [], ◌∷◌, ◌++◌, cond, replicate, refl, arith, inl, inr, append-nil, ◌==◌, IsSquare, Item, PartySet, PushesItems, PushesRow, Sending, cases_eq, cell-put_other, cell-put_same, common_steps, eq-eqb, has_party, link_at, ne_eqb, new_sending, put, put-map_same, replicate_more, same_from_push, square-put}
+use Rattle.mv_hub.proofs.Words.{◌≡◌, ℕ, ◌<◌, ◌&&◌, not, true, List, [], ◌∷◌, ◌++◌, cond, replicate, arith, inl, inr, append-nil, ◌==◌, IsSquare, Item, PartySet, PushesItems, PushesRow, Sending, cases_eq, cell-put_other, cell-put_same, common_steps, has_party, link_at, nat_tests, new_sending, put, put-map_same, replicate_more, same_from_push, square-put}
 
--- a link that gains nothing
-pub pushes-none : (link : Sending) → PushesItems [] link link
-pushes-none link = record { window = refl; total = omega arith; sent = refl; ends = λ list ends. rw append-nil ends }
+-- no link gains anything
+pub row-none : {n from : ℕ} {g : ℕ → List Item} {old : List (List Sending)} → IsSquare n old → ((to : ℕ) → to < n → g to ≡ []) → PushesRow n from g old old
+row-none square none = grind (arith, append-nil)
 
--- what is gained first, and then
-pub row-then : {n from : ℕ} {g h : ℕ → List Item} {old mid new : List (List Sending)} → PushesRow n from g old mid → PushesRow n from h mid new
-    → PushesRow n from (λ to. g to ++ h to) old new
-row-then {g = g} {h = h} first second = grind (arith, common_steps)
-
--- one link gains these items
-pub row-one : {n from to : ℕ} {items : List Item} {now : List (List Sending)} {link : Sending} → IsSquare n now → from < n → to < n
-    → PushesItems items (link_at now from to) link → PushesRow n from (λ other. cond (other == to) items []) now (put now from to link)
-row-one {n} {from} {to} {items} {now} {link} square is_from is_to gains = record {
-  square = square-put n now from to link square;
+-- one link gains these items more
+pub row-push : {n from to : ℕ} {g h : ℕ → List Item} {items : List Item} {old now : List (List Sending)} {link : Sending} → PushesRow n from g old now
+    → from < n → to < n → PushesItems items (link_at now from to) link → ((other : ℕ) → other < n → h other ≡ g other ++ cond (other == to) items [])
+    → PushesRow n from h old (put now from to link)
+row-push {n} {from} {to} {now = now} {link = link} row is_from is_to pushed are = record {
+  square = square-put n now from to link row.square;
   gained = λ other below. elim (cases_eq other to) [
-    | inl same ↦ rw (same, eq-eqb to to refl, cell-put_same n now from to link (new_sending 0) square is_from is_to) gains
+    | inl same ↦ grind (arith, common_steps, cell-put_same n now from to link (new_sending 0), row.gained other below, are other below)
     | inr apart ↦
-        rw (ne_eqb other to apart, cell-put_other now from to from other link (new_sending 0) (inr apart)) (pushes-none (link_at now from other))
+        grind (arith, append-nil, nat_tests, cell-put_other now from to from other link (new_sending 0), row.gained other below, are other below)
   ];
-  others = λ party other apart. cell-put_other now from to party other link (new_sending 0) (inl apart);
-  sent = put-map_same (λ v. v.sent) now from to link (new_sending 0) gains.sent;
+  others = λ party other apart. grind (arith, cell-put_other now from to party other link (new_sending 0) (inl apart), row.others party other apart);
+  sent = grind (arith, put-map_same (λ v. v.sent) now from to link (new_sending 0) pushed.sent);
 }
 
--- the same, said in other words
+-- a row, said in other words
 pub row-same : {n from : ℕ} {g h : ℕ → List Item} {old new : List (List Sending)} → ((to : ℕ) → to < n → g to ≡ h to) → PushesRow n from g old new
     → PushesRow n from h old new
 row-same same row = grind arith

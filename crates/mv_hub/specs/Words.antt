@@ -10,7 +10,6 @@ pub use Rattle.mv_link.specs.Sending.{EndsWithHeld, HasRoom, Sending, again_faul
 pub use Rattle.mv_link.specs.declared.item.Item.{Item}
 pub use Rattle.mv_link.specs.declared.item.Item.TheVariants.{Carried, Receipt}
 pub use Rattle.mv_link.specs.declared.limits.TheConstants.{NUMBER_LIMIT, PARTIES_LIMIT}
-pub use Rattle.mv_link.specs.inside.PartySets.{no_parties}
 pub use Rattle.mv_message.specs.declared.message.Message.{Message}
 pub use Rattle.mv_message.specs.declared.message.Message.TheVariants.{Answer, Master, Query, Recall, Repack, Status, Upload, Withdraw}
 pub use Rattle.mv_message.specs.declared.message.Product.{Product}

@@ -1,7 +1,7 @@
 -- What the hub keeps beside its record, how that follows from the record, how an entry changes its tables, and what a routing puts on
 -- the links of its sender.
-use Rattle.std.specs.Prelude.{List, [], ◌∷◌, ◌++◌, ◌+◌, ◌==◌, option_to_list, ◌≡◌, ◌↔◌, ◌⊎◌, Contains, Option, Some, None, Bool, false, if◌then◌else◌, ℕ, bytes_eq, length, slice_index, unwrap_or, ◌≢◌, ◌<◌, ◌≤◌, ◌&&◌, map, slice_index_or}
-use Rattle.mv_hub.specs.Words.{BatchKey, IsEquivalence, Message, Product, Upload, and_equiv, insert_all, is_same_batch, nat_eq_equiv, nat_list_eq_equiv, on_equiv, option_map_or, option_or, Carried, EndsWithHeld, Entry, HasRoom, IsSquare, Item, PARTIES_LIMIT, Receipt, Sending, cell, has_party, new_sending, no_parties, parties_in}
+use Rattle.std.specs.Prelude.{List, [], ◌∷◌, ◌++◌, ◌+◌, ◌==◌, option_to_list, ◌≡◌, ◌↔◌, ◌⊎◌, Contains, Option, Some, None, Bool, false, if◌then◌else◌, ℕ, bytes_eq, length, slice_index, unwrap_or, ◌≢◌, ◌<◌, ◌≤◌, ◌&&◌, not, map, slice_index_or}
+use Rattle.mv_hub.specs.Words.{BatchKey, IsEquivalence, Message, Product, Upload, and_equiv, insert_all, is_same_batch, nat_eq_equiv, nat_list_eq_equiv, on_equiv, option_map_or, option_or, Carried, EndsWithHeld, Entry, HasRoom, IsSquare, Item, PARTIES_LIMIT, Receipt, Sending, cell, has_party, new_sending, parties_in}
 use Rattle.mv_hub.specs.declared.catalogue.Catalogue.{Catalogue}
 use Rattle.std.specs.Map.{lookup}
 use Rattle.std.specs.declared.alloc.Global.{Global}
@@ -72,6 +72,7 @@ is_found (Some found) party = party == found
 pub record AreNoted (lists : List (List (List ℕ))) (noted : List ℕ) : Type 0 where
   pub long : length noted ≡ MARKETS_LIMIT
   pub once : has_twice (all_markets lists) ≡ false
+  pub known : (market : List ℕ) → IsMarket market → has_market (all_markets lists) market ≡ not (slice_index noted (place_of market) == 0)
   pub parties : (market : List ℕ) (party : ℕ) → IsMarket market
       → has_market (served_by lists party) market ≡ (slice_index noted (place_of market) == (party + 1))
 
@@ -103,8 +104,8 @@ pub record IsKept (parties : List (List (List ℕ))) (window : ℕ) (entries : L
   pub counted : length routed_counts ≡ length parties
   pub counts : (party : ℕ) → party < length parties → slice_index_or routed_counts party 0 ≡ routed_count entries party
   pub opened : length open_links ≡ length parties
-  pub opens : (from to : ℕ) → from < length parties → to < length parties
-      → has_party (slice_index_or open_links from no_parties) to ≡ is_open entries from to
+  pub opens : (from to : ℕ) (none : PartySet) → from < length parties → to < length parties
+      → has_party (slice_index_or open_links from none) to ≡ is_open entries from to
   pub square : IsSquare (length parties) links
   pub carries : (from to : ℕ) → from < length parties → to < length parties
       → Carries window (link_items parties entries from to) (link_at links from to)

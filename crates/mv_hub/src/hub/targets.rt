@@ -45,7 +45,7 @@ impl Hub {
     }
 
     /// The parties that a message from a party reaches: of those that it is for, those to which the link is open.
-    #[tactic(auto, using(crate::proofs::HubLemmas::open_at, crate::proofs::HubLemmas::reached_of))]
+    #[tactic(auto, using(crate::proofs::HubLemmas::reached_of))]
     pub(super) fn reached(&self, from: Party, message: &Message) -> PartySet
         requires { from < length self.now.parties }
         ensures parties { (to : ℕ) → has_party result to

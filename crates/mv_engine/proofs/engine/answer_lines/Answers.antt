@@ -31,7 +31,7 @@ returns-then-count-eq0-clause-ok g c =
     MatchResult-weaker c.answer_last.result c.answer_last.ensures.ok (λ u last. Consumes-whole _ _ c.loop.invariant.0 _
     (read_none _ _ _ _ _ _ c.loop.invariant.1 c.in_ok-count.ensures.read c.if-count-eq0.true)
     (c.in_ok-count.ensures.end c.if-count-eq0.true)
-    (served_whole g.S.Answering.replies _ _ _ _ _ _ _ _ _ _ _ c.loop.invariant.3 c.loop.invariant.4 last.1 last.2)) (λ e t. t)
+    (served_whole g.S.Answering.replies _ _ _ _ c.loop.invariant.3 c.loop.invariant.4 last.1 last.2)) (λ e t. t)
 
 -- the input ended, and the answering of the last line failed
 pub returns-then-count-eq0-clause-ended : goal.returns-then-count-eq0-clause-ended

@@ -1,5 +1,5 @@
-use Rattle.mv_engine.proofs.Words.{[], rules, err_from_is_err_and}
-use Rattle.mv_engine.proofs.InputLemmas.{none_added, part_unanswered}
+use Rattle.mv_engine.proofs.Words.{[], refl, rules, err_from_is_err_and}
+use Rattle.mv_engine.proofs.InputLemmas.{none_added, part_stopped}
 use Rattle.mv_engine.proofs.PartLemmas.{unended_nil}
 use Rattle.mv_engine.proofs.input.Input.finish.Goals as goal
 
@@ -10,5 +10,5 @@ returns-in_err-answer_line-clause-err g c =
     rw (p.1, p.2, c.in_err-answer_line.ensures.fault) (
       [],
       none_added _ _ c.in_err-answer_line.ensures.err,
-      part_unanswered g.S.Answering.replies _ [] [] _ _ _ _ unended_nil c.args.self.now.few (search rules) c.in_err-answer_line.ensures.left,
+      part_stopped g.S.Answering.replies _ _ [] [] _ _ _ _ unended_nil c.args.self.now.few (search rules) (search rules) (λ other. absurd (other refl)),
     )

@@ -1,10 +1,8 @@
-use Rattle.mv_hub.proofs.Words.{arith, length, nat_tests, ◌<◌}
+use Rattle.mv_hub.proofs.Words.{arith, nat_tests}
 use Rattle.mv_hub.proofs.HubLemmas.{kept_closed}
 use Rattle.mv_hub.proofs.hub.Hub.close.Goals as goal
 
 pub invariant_of-self-2 : goal.invariant_of-self-2
 invariant_of-self-2 c =
-    let is_from : c.args.from < length c.self.inside.parties =
-    grind (arith, nat_tests, c.are_parties.ensures, c.if-not-are_parties.false, c.self.view_is) in
     rw c.in_ok-push.ensures.ok
-    (kept_closed c.self.invariant c.args.from c.args.to c.index.result.now c.without.result is_from c.index.ensures c.without.ensures)
+    (kept_closed c.self.invariant c.args.from c.args.to c.index.result.now c.without.result (grind (arith, nat_tests)) c.index.ensures c.without.ensures)

@@ -1,5 +1,5 @@
-use Rattle.mv_hub.proofs.Words.{◌∙◌, ◌++◌, length, sym, ap, append_assoc, arith, replicate, and_parts, carried_by, new_sending, parties_in, receipt_to}
-use Rattle.mv_hub.proofs.LinksLemmas.{row-same, row-one, row-then, carried-more, pop-equal}
+use Rattle.mv_hub.proofs.Words.{◌∙◌, length, sym, ap, append_assoc, arith, replicate, and_parts, carried_by, new_sending, parties_in}
+use Rattle.mv_hub.proofs.LinksLemmas.{row-push, carried-more, pop-equal}
 use Rattle.mv_hub.proofs.hub.gains.put_gains.Goals as goal
 
 pub loop-to-init : goal.loop-to-init
@@ -19,9 +19,8 @@ loop-to-preserved c =
     let popped = pop-equal (length (parties_in left)) routing.message.now c.in-Some-pop.message c.pop.new.self.items shares in
     let pushed = rw (popped.1, ← c.at_mut.ensures.value (new_sending 0)) at c.put_one.ensures in
     record {
-      row = row-same (λ other lt. append_assoc (receipt_to routing other) _ _ ∙ ap (λ l. receipt_to routing other ++ l)
-          (carried-more routing.reached c.loop-to.rest left (carried_by routing) to other here sets.1 (sets.2 other)))
-          (row-then before.row (row-one before.row.square c.requires.from (c.requires.within to here) pushed));
+      row = row-push before.row c.requires.from (c.requires.within to here) pushed
+          (λ other lt. grind (arith, append_assoc, carried-more routing.reached c.loop-to.rest left (carried_by routing) to other here sets.1 (sets.2 other)));
       left = λ other e. before.left other (and_parts _ _ (sym (sets.2 other) ∙ e)).0;
       each = popped.0;
     }

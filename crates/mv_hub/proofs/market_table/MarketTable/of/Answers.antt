@@ -1,5 +1,5 @@
-use Rattle.mv_hub.proofs.Words.{ap, map, take, take_more, ◌+◌, ◌∙◌}
-use Rattle.mv_hub.proofs.MarketTableLemmas.{noted-none, noted-more, noted-twice, twice-front, twice-first, lists-more, lists-count}
+use Rattle.mv_hub.proofs.Words.{map, take, take_more, ◌+◌}
+use Rattle.mv_hub.proofs.MarketTableLemmas.{noted-none, noted-more, noted-twice, twice-first, lists-count}
 use Rattle.mv_hub.proofs.market_table.MarketTable.of.Goals as goal
 
 pub loop-party-init : goal.loop-party-init
@@ -8,19 +8,14 @@ loop-party-init c = noted-none
 -- the market at hand has a party already
 pub returns-then-noted-place-ne0 : goal.returns-then-noted-place-ne0
 returns-then-noted-place-ne0 c =
-    let lists = c.args.lists.now in
-    let party = c.loop-party.party in
     let i = c.loop-market.market-index in
     let market = c.market-item.result in
-    let first = map (λ list. list.items) (take party lists) in
     let markets = c.as_slice-markets.result.now in
     let taken = rw c.place-place.ensures.value at c.if-noted-place-ne0.true in
-    let twice = noted-twice first (take i markets) market c.loop-market.noted c.loop-market.invariant c.place-place.ensures.market taken in
+    let twice = noted-twice _ (take i markets) market c.loop-market.noted c.loop-market.invariant c.place-place.ensures.market taken in
     let front = take_more markets i market c.loop-market-test.true in
-    let more = lists-more (λ list. list.items) lists party c.index-lists-party.result c.loop-party-test.true in
-    let last = c.as_slice-markets.ensures.value ∙ ap (λ v. v.items) c.index-lists-party.is in
-    twice-first (λ list. list.items) lists (party + 1)
-    (rw (more, ← last) (twice-front first markets (i + 1) (rw (front, ← c.market-item.is) twice)))
+    twice-first (λ list. list.items) c.args.lists.now c.loop-party.party (i + 1) c.index-lists-party.result c.loop-party-test.true c.index-lists-party.is
+    (rw (← c.as_slice-markets.ensures.value, front, ← c.market-item.is) twice)
 
 pub loop-market-preserved : goal.loop-market-preserved
 loop-market-preserved c =

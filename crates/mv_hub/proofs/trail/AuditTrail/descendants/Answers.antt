@@ -1,17 +1,13 @@
-use Rattle.mv_hub.proofs.Words.{Contains, IfOk-weaker, IsAscendingList, IsDescendant, arith, linked_to, sym}
+use Rattle.mv_hub.proofs.Words.{Contains, IfOk-weaker, IsAscendingList, IsDescendant, arith, linked_to, rules}
 use Rattle.mv_hub.proofs.ListingLemmas.{listed-same}
 use Rattle.mv_hub.proofs.SearchLemmas.{searching_start, searching_more, searching_end}
 use Rattle.mv_hub.proofs.trail.AuditTrail.descendants.Goals as goal
 
 pub loop-next-init : goal.loop-next-init
-loop-next-init c =
-    searching_start (linked_to c.args.self.now) c.args.batch.now _ (rw (c.new-reached.ensures.empty, c.links_of.ensures) at c.in_ok-add_all.ensures)
+loop-next-init c = search (rules, searching_start)
 
 pub loop-next-preserved : goal.loop-next-preserved
-loop-next-preserved c =
-    searching_more (linked_to c.args.self.now) c.args.batch.now _ _ _ c.index-as_slice-next.result c.loop-next.invariant
-    (omega (arith, c.len.ensures.len, c.loop-next-test.true)) (sym (rw c.as_slice.ensures.keys at c.index-as_slice-next.is))
-    (rw c.links_of-links.ensures at c.in_ok-add_all-2.ensures)
+loop-next-preserved c = search (rules, searching_more)
 
 pub returns : goal.returns
 returns c =

@@ -24,7 +24,8 @@ pub stops_later : (fault : ServeFault) (begun : List ℕ) (count : ℕ) (front g
 stops_later fault begun count front good bad why = grind (arith, length-append, rest_from-append, whole_from-append)
 
 -- and so it is where more follows
-stops_longer : (fault : ServeFault) (begun : List ℕ) (count : ℕ) (good bad tail : List ℕ) → StopsAt fault begun count good bad → StopsAt fault begun count good (bad ++ tail)
+stops_longer : (fault : ServeFault) (begun : List ℕ) (count : ℕ) (good bad tail : List ℕ) → StopsAt fault begun count good bad
+    → StopsAt fault begun count good (bad ++ tail)
 stops_longer fault begun count good bad tail why = grind (arith, length-append)
 
 -- no bytes are added
@@ -88,8 +89,8 @@ module _ {S : Type 0} (Reply : S → Line → Option (List ℕ) → S → Type 0
       }
 
   -- a line that ends in these bytes got no reply
-  pub line_unanswered : (begun part tail : List ℕ) (count : ℕ) (a b : S) → IsUnended part → count ≤ lines_limit → TookAtMostOne Reply count a ((begun ++ part) ∷ []) b
-      → StoppedAt Reply Memory begun count a (part ++ 10 ∷ tail) (whole_from begun (part ++ 10 ∷ tail)) b []
+  pub line_unanswered : (begun part tail : List ℕ) (count : ℕ) (a b : S) → IsUnended part → count ≤ lines_limit
+      → TookAtMostOne Reply count a ((begun ++ part) ∷ []) b → StoppedAt Reply Memory begun count a (part ++ 10 ∷ tail) (whole_from begun (part ++ 10 ∷ tail)) b []
   line_unanswered begun part tail count a b unended few left = search (rules, part_stopped, took_later, whole_from-append, unended_whole, unended_rest)
 
   -- no line may follow

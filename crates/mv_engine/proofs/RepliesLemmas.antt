@@ -20,7 +20,8 @@ module _ {S : Type 0} (Reply : S → Line → Option (List ℕ) → S → Type 0
   IsReplies-append a b c lines more out other first next = grind (arith, AreReplies-append, flat_map-append, filter_map-append (λ (text : Option (List ℕ)). text))
 
   -- the reply to one line, or its want
-  pub IsReplies-one : (a b : S) (line : Line) (text : Option (List ℕ)) → Reply a line text b → IsReplies Reply a (line ∷ []) (text_lines (said_texts (text ∷ []))) b
+  pub IsReplies-one : (a b : S) (line : Line) (text : Option (List ℕ)) → Reply a line text b
+      → IsReplies Reply a (line ∷ []) (text_lines (said_texts (text ∷ []))) b
   IsReplies-one a b line text reply = (text ∷ [], refl, (b, reply, refl))
 
   -- a line that got no reply is at most one that was taken

@@ -49,15 +49,15 @@ module _ {S : Type 0} (Reply : S → Line → Option (List ℕ) → S → Type 0
       (all, whole, (out ++ other, Appends-trans a b c out other written went, stopped_later Reply fault is are taken stopped))
 
   -- that of a block
-  pub halted_block : {before between : S} {front begun' out : List ℕ} {count' : ℕ} (fault : ServeFault) (after : S) (back : List ℕ) (a b c rest : Option (List ℕ)) → Appends a b out
-      → Taken Reply [] 0 before front begun' count' between out → Halted Reply fault begun' count' between back (whole_from begun' back) after b c
+  pub halted_block : {before between : S} {front begun' out : List ℕ} {count' : ℕ} (fault : ServeFault) (after : S) (back : List ℕ)
+      (a b c rest : Option (List ℕ)) → Appends a b out → Taken Reply [] 0 before front begun' count' between out → Halted Reply fault begun' count' between back (whole_from begun' back) after b c
       → EndedAt Reply fault before (front ++ back) rest after a c
   halted_block {front = front} fault after back a b c rest written taken halted =
       halted_later fault after back _ _ _ a b c rest written taken refl (rw taken.rest (whole_from-append [] front back)) (inl refl) halted
 
   -- that of the last line
-  pub halted_last : {before between : S} {bytes begun' out : List ℕ} {count' : ℕ} (fault : ServeFault) (after : S) (a b c rest : Option (List ℕ)) → Appends a b out
-      → Taken Reply [] 0 before bytes begun' count' between out → IsAtEnd rest
+  pub halted_last : {before between : S} {bytes begun' out : List ℕ} {count' : ℕ} (fault : ServeFault) (after : S)
+      (a b c rest : Option (List ℕ)) → Appends a b out → Taken Reply [] 0 before bytes begun' count' between out → IsAtEnd rest
       → Halted Reply fault begun' count' between [] (unless_empty begun') after b c → EndedAt Reply fault before bytes rest after a c
   halted_last {bytes = bytes} fault after a b c rest written taken at_end halted =
       halted_later fault after [] bytes _ _ a b c rest written taken (sym (append-nil bytes)) refl (inr (rw taken.rest refl, at_end)) halted

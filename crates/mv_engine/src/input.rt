@@ -159,6 +159,7 @@ impl Input {
     }
 
     /// Whether the line may have these bytes more, of which none ends it.
+    #[tactic(auto, using(crate::proofs::PartLemmas::too_long))]
     fn check_part(&self, part: &[u8]) -> Result<(), ServeFault>
         requires unended { IsUnended part.now }
         ensures behind { OnOk result (0 < length part.now → self.now.lines < lines_limit) }
@@ -197,6 +198,7 @@ impl Input {
 
 /// Writes the reply to a line that has come after `count` others, with what ends it but its line feed, behind those that are
 /// ready; an empty line gets none.
+#[tactic(auto, using(crate::proofs::RepliesLemmas::took_one))]
 fn answer_piece<S: Answering>(
     answering: &mut S,
     count: u32,

@@ -24,6 +24,7 @@ pub fn put_out<W: Write>(writer: &mut W, bytes: &[u8]) -> Result<(), ServeFault>
 }
 
 /// Writes all of the bytes. The loop is its own, since the library's writes again after an interruption.
+#[tactic(auto, using(crate::proofs::OutputLemmas::wrote_more, crate::proofs::OutputLemmas::front_is_part))]
 fn write_whole<W: Write>(writer: &mut W, bytes: &[u8]) -> Result<(), ServeFault>
     ensures ok { OnOk result (Appends (W.contents writer.old) (W.contents writer.new) bytes.now) }
     ensures fault { IfErr result (λ fault. fault ≡ ServeFault.Write) }

@@ -1,5 +1,5 @@
 use Rattle.mv_engine.proofs.Words.{rules, arith, append-nil, append_assoc, take_at, nil_from_length}
-use Rattle.mv_engine.proofs.RepliesLemmas.{reply_added, took_one}
+use Rattle.mv_engine.proofs.RepliesLemmas.{reply_added}
 use Rattle.mv_engine.proofs.input.answer_piece.Goals as goal
 
 -- the line is empty
@@ -10,14 +10,12 @@ returns-then-is_empty-clause-ok g c = search (rules, nil_from_length)
 pub returns-then-not-branch-clause-ok : goal.returns-then-not-branch-clause-ok
 returns-then-not-branch-clause-ok g c =
     let (text, grown, reply) = c.in_ok-answer.ensures.ok in
-    reply_added g.S.Answering.replies _ _ _ _ _ _ _ _ c.requires.few c.requires.short c.without_return-line.ensures (search rules) reply (grind (arith, take_at, append-nil))
+    reply_added g.S.Answering.replies _ _ _ _ _ _ _ _ c.requires.few c.requires.short c.without_return-line.ensures (search rules) reply
+    (grind (arith, take_at, append-nil))
 
 -- the reply is added
 pub returns-clause-ok : goal.returns-clause-ok
 returns-clause-ok g c =
     let (text, grown, reply) = c.in_ok-answer.ensures.ok in
-    reply_added g.S.Answering.replies _ _ _ _ _ _ _ _ c.requires.few c.requires.short c.without_return-line.ensures (search rules) reply (grind (arith, append_assoc, append-nil))
-
--- there is a reply, and no memory for its line feed
-pub returns-then-is_err-clause-left : goal.returns-then-is_err-clause-left
-returns-then-is_err-clause-left g c = search (rules, took_one)
+    reply_added g.S.Answering.replies _ _ _ _ _ _ _ _ c.requires.few c.requires.short c.without_return-line.ensures (search rules) reply
+    (grind (arith, append_assoc, append-nil))

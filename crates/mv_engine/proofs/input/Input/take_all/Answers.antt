@@ -8,7 +8,8 @@ pub returns-in_err-take_line-clause-err : goal.returns-in_err-take_line-clause-e
 returns-in_err-take_line-clause-err g c =
     let p = err_from_is_err_and c.from_residual.result c.from_residual.ensures.1 in
     let cut = cut_line c.loop-end.rest.now c.in-Some.end c.in-Some.ensures in
-    rw (p.1, p.2) (grown_stopped g.S.Answering.replies _ _ _ _ (c.loop-end.invariant.1 ∙ ap (λ l. c.loop-end.invariant.0 ++ l) cut) c.loop-end.invariant.3 c.loop-end.invariant.4
+    let whole = c.loop-end.invariant.1 ∙ ap (λ l. c.loop-end.invariant.0 ++ l) cut in
+    rw (p.1, p.2) (grown_stopped g.S.Answering.replies _ _ _ _ whole c.loop-end.invariant.3 c.loop-end.invariant.4
     (c.in_err-take_line.ensures.err _))
 
 -- one more line is taken

@@ -1,10 +1,7 @@
 use Rattle.std.proofs.Common.{◌<◌, length, sym, arith}
 use Rattle.mv_hub.proofs.LinksLemmas.{row-same}
-use Rattle.mv_hub.proofs.HubLemmas.{reached_below, rooms, next-gain, kept-routed}
+use Rattle.mv_hub.proofs.HubLemmas.{rooms, next-gain, kept-routed}
 use Rattle.mv_hub.proofs.hub.Hub.route.Goals as goal
-
-pub put_gains-requires-clause-within : goal.put_gains-requires-clause-within
-put_gains-requires-clause-within c = grind (arith, reached_below)
 
 -- no link is busy, so each has room
 pub put_gains-requires-clause-room : goal.put_gains-requires-clause-room

@@ -1,13 +1,7 @@
-use Rattle.mv_hub.proofs.Words.{Contains, IfOk-weaker, IsAscendingList, IsDescendant, arith, linked_to, rules}
+use Rattle.mv_hub.proofs.Words.{Contains, IfOk-weaker, IsAscendingList, IsDescendant, arith, linked_to}
 use Rattle.mv_hub.proofs.ListingLemmas.{listed-same}
-use Rattle.mv_hub.proofs.SearchLemmas.{searching_start, searching_more, searching_end}
+use Rattle.mv_hub.proofs.SearchLemmas.{searching_end}
 use Rattle.mv_hub.proofs.trail.AuditTrail.descendants.Goals as goal
-
-pub loop-next-init : goal.loop-next-init
-loop-next-init c = search (rules, searching_start)
-
-pub loop-next-preserved : goal.loop-next-preserved
-loop-next-preserved c = search (rules, searching_more)
 
 pub returns : goal.returns
 returns c =

@@ -1,5 +1,5 @@
 -- Blocks of statuses, over any places and any rule by which a pack goes from one to the next.
-use Rattle.mv_repository.proofs.Words.{AllByRecursion, AreBlocks, Block, Cut, IsCovered, IsCut, IsFront, IsSummary, List, PARTIES_LIMIT, PartySet, Placed, [], ap, append-nil, append_assoc, arith, at_drop_more, common_steps, drop, drop-append-le, drop-drop, drop_at, drop_of_length-le, elements, fold, fold-append, get_or, get_or_default, has_party, insert, length, length-append, length-drop, length-take-le, nat_tests, set, subst, suc, sym, take, take-add, take-append-drop, take-append-le, take_at, take_more_set, true, without, zero, ℕ, ◌%◌, ◌++◌, ◌+◌, ◌-◌, ◌<◌, ◌==◌, ◌||◌, ◌∙◌, ◌∷◌, ◌≡◌, ◌≤◌}
+use Rattle.mv_repository.proofs.Words.{AllByRecursion, AreBlocks, Block, Cut, IsCovered, IsCut, IsFront, IsSummary, List, PARTIES_LIMIT, PartySet, Placed, [], ap, append-nil, append_assoc, arith, at_drop_more, common_steps, drop, drop-append-le, drop-drop, drop_at, drop_of_length-le, elements, fold, fold-append, get_or, get_or_default, has_party, insert, length, length-append, length-drop, length-take-le, nat_tests, set, subst, suc, sym, take, take-add, take-append-drop, take-append-le, take_at, take_more_set, true, without, zero, ℕ, ◌%◌, ◌++◌, ◌+◌, ◌-◌, ◌<◌, ◌∙◌, ◌∷◌, ◌≡◌, ◌≤◌}
 
 -- lists that are cut
 cut-take : {A : Type 0} (n : ℕ) (xs ys : List A) → n ≤ length xs → take n (take n xs ++ ys) ≡ take n xs
@@ -26,10 +26,6 @@ without-insert xs at p l = grind (arith, elements)
 -- one that is written
 set-take : {A : Type 0} (xs more : List A) (i : ℕ) (y : A) → i < length xs → take (i + 1) (set xs i y) ++ more ≡ take i xs ++ y ∷ more
 set-take xs more i y l = ap (λ (t : List _). t ++ more) (take_more_set xs i y l) ∙ append_assoc (take i xs) (y ∷ []) more
-
--- a set with one sender more
-pub has-added : (set more : PartySet) (party : ℕ) → ((other : ℕ) → has_party more other ≡ (has_party set other || (other == party))) → has_party more party ≡ true
-has-added set more party h = let e = h party in grind (arith, nat_tests)
 
 -- the senders of reverts, of one status more
 pub covered-more : (entry : ℕ → Placed) (reverters more : PartySet) (own : List ℕ) (i : ℕ) → i < length own
@@ -118,26 +114,14 @@ module _ (entry : ℕ → Placed) (next : ℕ → ℕ → ℕ) (start : ℕ) (is
     late-fold = ap (λ (n : ℕ). fold next n (drop cut.start own)) (c.by ∙ ap (fold next start) (take-without own at cut.start le l)) ∙ sym (fold-cut start cut.start own)
 
     module _ (b : Block) (is_in : (cut.number < length bs) × (b ≡ get_or bs cut.number b) × (at < cut.start + b.count)) where
-      late-here : AreBlocks entry next start cut.by (b ∷ drop (cut.number + 1) bs) (drop cut.start (without own at))
-      late-here = subst (λ (t : List Block). AreBlocks entry next start cut.by t (drop cut.start (without own at))) (got-drop bs cut.number b is_in.0 ∙ ap (λ (x : Block). x ∷ drop (cut.number + 1) bs) (sym is_in.1)) c.behind
-
       late-rest : drop b.count (drop cut.start (without own at)) ≡ drop (b.count + 1) (drop cut.start own)
       late-rest = grind (arith, nat_tests, drop-drop, drop-without)
 
-      late-after : b.after ≡ fold next cut.by (take b.count (drop cut.start (without own at)))
-      late-after = late-here.1 ∙ is (fold next cut.by (take b.count (drop cut.start (without own at))))
-
       pub late-within : b.count + 1 ≤ length (drop cut.start own)
       late-within = grind (arith, nat_tests, common_steps)
-
-      late-was : (new : Block) → AreBlocks entry next start b.after (drop (cut.number + 1) (set bs cut.number new)) (drop (b.count + 1) (drop cut.start own))
-      late-was new = grind (arith, nat_tests, common_steps, late-rest)
-
-      late-standing : fold next start (without own at) ≡ fold next b.after (drop (b.count + 1) (drop cut.start own))
-      late-standing = grind (arith, nat_tests, fold-cut, late-after, late-rest)
 
       -- it is worked out again
       module _ (new : Block) (rest some behind : List ℕ) (r : rest ≡ drop cut.start own) (s : some ≡ take (b.count + 1) rest) (t : behind ≡ drop (b.count + 1) rest)
           (a : new.after ≡ fold next cut.by some) (standing : ℕ) (e : standing ≡ fold next start (without own at)) (n : new.count ≡ b.count + 1) (m : IsSummary entry next start new some) where
         pub renewed : Renewed entry next start bs own cut standing b new behind
-        renewed = grind (arith, nat_tests, fold-cut, late-fold, late-front, late-rest, late-within, late-standing, late-was, set-take)
+        renewed = grind (arith, nat_tests, common_steps, fold-cut, late-fold, late-front, late-rest, late-within, set-take)

@@ -8,7 +8,7 @@ pub use Rattle.mv_repository.proofs.StoppedLemmas.{key_added, key_there}
 pub use Rattle.mv_repository.proofs.TableLemmas.{log-length, log-split, longer}
 pub use Rattle.mv_repository.proofs.SerialLemmas.{no-shelf-yet, same-shelf, serials-at, shelf-kept, shelf-longer, shelf-seen, upload-serials}
 pub use Rattle.mv_repository.proofs.NextLemmas.{own-passed}
-pub use Rattle.mv_repository.proofs.BlockLemmas.{covered-more, cut-next, fold-cut, has-added, last-blocks, late-before, late-within, late-front, late-fold, pass-after, pass-behind, pass-front, renewed, without-insert}
+pub use Rattle.mv_repository.proofs.BlockLemmas.{covered-more, cut-next, fold-cut, last-blocks, late-before, late-within, late-front, late-fold, pass-after, pass-behind, pass-front, renewed, without-insert}
 pub use Rattle.mv_repository.proofs.TrackLemmas.{put-ascend, put-blocks, put-standing, put-status, status-form}
 pub use Rattle.mv_repository.proofs.UploadLemmas.{ArePacksOf, batch-kept, batch-noted, status-others, upload-adds, upload-all, upload-form, upload-names, upload-worked}
 pub use Rattle.mv_repository.proofs.ActiveLemmas.{active-all}

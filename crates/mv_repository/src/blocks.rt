@@ -3,7 +3,8 @@
 //! active, and whose reverts stand in it, since a pack that another changed goes through as it comes.
 
 ghost use Rattle.std.specs.Prelude.{◌≡◌, ◌≤◌, ◌<◌, ◌+◌, ◌%◌};
-ghost use Rattle.mv_repository.specs.Clauses.{AllByRecursion, AreBlocks, IfSome, IsCovered, IsCut, IsFront, IsSummary, List, drop, effect_in, entry_at, entry_in, fold, get_or, length, next_in, start_in, take, without, ℕ};
+ghost use Rattle.mv_link.specs.PartySets.{has_party};
+ghost use Rattle.mv_repository.specs.Clauses.{AllByRecursion, AreBlocks, IfSome, IsCovered, IsCut, IsFront, IsSummary, List, drop, effect_in, entry_at, entry_in, fold, get_or, length, next_in, start_in, take, true, without, ℕ};
 
 use crate::entry::sender_at;
 use crate::state::{Basis, is_active, standing_by};
@@ -34,15 +35,25 @@ fn number_of(sender: Party) -> Party
     sender % PARTIES_LIMIT as u32
 }
 
+/// These senders, with that of the status at a place where it is a revert.
+fn with_reverter(log: &[LogEntry], reverters: PartySet, place: u32) -> PartySet
+    ensures covered { IsCovered result (entry_at log.now place) }
+    ensures more { (other : ℕ) → has_party reverters (other % PARTIES_LIMIT) ≡ true → has_party result (other % PARTIES_LIMIT) ≡ true }
+{
+    if is_active(standing_by(log, place)) {
+        reverters.with(number_of(sender_at(log, place as usize)))
+    } else {
+        reverters
+    }
+}
+
 /// Whose reverts are among the statuses at these places.
 fn reverters_of(log: &[LogEntry], own: &[u32]) -> PartySet
     ensures { AllByRecursion (λ place. IsCovered result (entry_at log.now place)) own.now }
 {
     let mut reverters = PartySet::none();
     for place in own {
-        if is_active(standing_by(log, *place)) {
-            reverters = reverters.with(number_of(sender_at(log, *place as usize)));
-        }
+        reverters = with_reverter(log, reverters, *place);
     }
     reverters
 }

@@ -1,28 +1,13 @@
 -- The status is put in, and what stands behind it worked out.
 use Rattle.std.specs.Prelude.{◌≡◌, ◌≤◌}
-use Rattle.mv_repository.proofs.Lemmas.{◌∙◌, ℕ, List, ap, sym, subst, rules, length, take, insert, get_or, fold, refl, option_map, unwrap_or, AreBlocks, without, next_place, effect_on, entry_at, stops_in, no_entry, Kept, IsKept, life_of, IsCutFor, arith, common_steps, without-insert, log-split, log-length, put-ascend, put-blocks, put-standing, put-status}
+use Rattle.mv_repository.proofs.Lemmas.{◌∙◌, ℕ, List, ap, sym, subst, rules, length, take, insert, get_or, fold, refl, option_map, unwrap_or, AreBlocks, next_place, effect_on, entry_at, stops_in, no_entry, Kept, IsKept, life_of, IsCutFor, arith, common_steps, without-insert, log-split, log-length, put-ascend, put-blocks, put-standing, put-status}
 use Rattle.mv_repository.proofs.track.Track.add_status.Goals as goal
 
 pub place_for-at-requires : goal.place_for-at-requires
 place_for-at-requires c = grind (arith, common_steps, log-split, put-ascend)
 
 pub put_late-effect-requires : goal.put_late-effect-requires
-put_late-effect-requires c =
-    let log = take c.args.newest.now.place c.args.newest.now.log.now in
-    let entry = get_or c.args.newest.now.log.now c.args.newest.now.place no_entry in
-    let old : Kept = record { birth = c.self.inside.birth; statuses = c.self.inside.statuses.items; by = c.self.inside.by; blocks = c.self.inside.blocks.items } in
-    let kept = subst (IsKept (life_of c.args.pack.now log)) (sym c.self.view_is) c.requires.kept in
-    let split = log-split c.args.newest.now.log.now c.args.newest.now.place c.args.newest.now.last in
-    let at = c.place_for-at.result in
-    let slice : c.as_slice.result.now ≡ old.statuses = search rules in
-    let own : c.as_slice-statuses.result.now ≡ insert old.statuses at c.args.newest.now.place = search rules in
-    let within = subst (λ (t : List ℕ). at ≤ length t) slice c.place_for-at.ensures.within in
-    let others = ap (λ (t : List ℕ). without t at) own ∙ without-insert old.statuses at c.args.newest.now.place within in
-    record {
-      within = search rules;
-      blocks = put-blocks log entry c.args.newest.now.stops.now c.args.pack.now old c.args.newest.now.log.now split c.requires.stops kept (without c.as_slice-statuses.result.now at) others;
-      standing = put-standing log entry c.args.newest.now.stops.now c.args.pack.now old c.args.newest.now.log.now split c.requires.stops kept (without c.as_slice-statuses.result.now at) others;
-    }
+put_late-effect-requires c = grind (arith, common_steps, log-split, put-blocks, put-standing, without-insert)
 
 pub returns : goal.returns
 returns c =

@@ -1,6 +1,6 @@
 -- The status is put in, and what stands behind it worked out.
 use Rattle.std.specs.Prelude.{◌≡◌, ◌≤◌}
-use Rattle.mv_repository.proofs.Lemmas.{◌∙◌, ℕ, List, ap, sym, subst, rules, length, take, insert, get_or, fold, refl, option_map, unwrap_or, AreBlocks, next_place, effect_on, entry_at, stops_in, no_entry, Kept, IsKept, life_of, IsCutFor, arith, common_steps, without-insert, log-split, log-length, put-ascend, put-blocks, put-standing, put-status}
+use Rattle.mv_repository.proofs.Lemmas.{◌∙◌, ℕ, List, ap, sym, subst, rules, length, take, get_or, fold, refl, option_map, unwrap_or, AreBlocks, next_place, effect_on, entry_at, stops_in, no_entry, Kept, IsKept, life_of, IsCutFor, arith, common_steps, without-insert, log-split, log-length, put-ascend, put-blocks, put-standing, put-status}
 use Rattle.mv_repository.proofs.track.Track.add_status.Goals as goal
 
 pub place_for-at-requires : goal.place_for-at-requires

@@ -103,7 +103,7 @@ impl Input {
         ensures ok { OnOk result (Readied self.old.replies.items self.new.replies.items (λ out.
             Taken S.replies self.old.begun.items self.old.lines answering.old
             (part.now ++ 10 ∷ []) self.new.begun.items self.new.lines answering.new out)) }
-        // So it is whatever bytes come behind it.
+        // Where it stops, it does so whatever bytes come behind the line.
         ensures err { IfErr result (λ fault. (tail : List ℕ) →
             Readied self.old.replies.items self.new.replies.items (λ out.
             StoppedAt S.replies fault self.old.begun.items self.old.lines answering.old

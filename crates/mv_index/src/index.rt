@@ -118,8 +118,8 @@ impl HashIndex {
         None
     }
 
-    /// Gets room for more numbers. It is refused where memory is, or for more than 2^31 numbers. Then each number keeps its hash, and there is
-    /// no less room than before.
+    /// Gets room for more numbers. It is refused where memory is, or for more than 2^31 numbers. Each number keeps its hash all the same, and
+    /// there is no less room than before.
     pub fn reserve(&mut self, additional: usize) -> Result<(), AllocError>
         ensures hashes { self.new.hashes ≡ self.old.hashes }
         ensures ok { OnOk result (additional ≤ self.new.room) }

@@ -10,8 +10,8 @@ use crate::Field;
 use crate::form::Version;
 use crate::member::{Said, put_members, put_object, put_said};
 use json::Writer;
-use mv_message::{Found, Message, Party, Product, Serials, Standing, Text};
-use mv_pack::{Batch, BatchKey, Expiry, Gtin, Moment, National, PackKey};
+use mv_message::{Found, Message, Party};
+use mv_pack::PackKey;
 use std::alloc::AllocError;
 
 /// Writes a message.
@@ -42,6 +42,7 @@ pub(crate) fn put_message(writer: &mut Writer, message: &Message) -> Result<(), 
             national,
             serials,
         } => {
+            // It is of version 2 where it has a national number.
             let Some(number) = national else {
                 let members = [
                     (Field::Batch, Said::Text(batch.as_str())),

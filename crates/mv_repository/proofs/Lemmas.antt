@@ -1,5 +1,5 @@
 -- The names and the lemmas that answers cite, passed on from one place. Declares nothing.
-pub use Rattle.mv_repository.proofs.Words.{AllByRecursion, AreAt, AreBlocks, AreShelfOf, AreSlots, AreStopsOf, IsNamed, IsSpot, IsWritten, RoomySlots, ShelfParts, SlotTable, earlier_place, slice_get, slice_get-get_or, get_or_from_slice_get, slice_get_within, keyed, no_slot, same_text, serial_hash, serial_of, serials_uploaded, shelf_by, Bool, Decided, FirstStops, IfSome, IsAgain, IsCovered, IsKept, IsShelfOf, IsUploadOf, Kept, List, LogEntry, None, Option, Made, Own, PARTIES_LIMIT, PartySet, ShelfTable, Slot, Some, [], ap, arith, batch_at, bytes_eq, comes_first, common_steps, cond, earlier_place, effect_in, effect_of, effect_on, entry_at, entry_in, false, filter, fold, fold-append, get_or, get_or_append_left, get_or_default, get_or_push, has_party, has_reply, history_of, insert, insert_key, is_active, is_listed, is_status_of, kept_by, kept_in, keys_of, length, length-append, life_of, lists, lookup, may_stop, min, nat_tests, next_in, next_place, no_entry, no_shelf, not, nothing_kept, option_and_then, option_map, ordered, pack_state, refl, rules, serials_of, shelf_of, spare, standing_in, start_in, stopped_product, stops_in, subst, sym, take, take-append-drop, take_all, take_at, take_more, track_of, true, true≢false, unwrap_or, without, ℕ, ◌∙◌}
+pub use Rattle.mv_repository.proofs.Words.{AreAt, AreBlocks, AreShelfOf, AreSlots, AreStopsOf, IsNamed, IsSpot, IsWritten, RoomySlots, ShelfParts, SlotTable, earlier_place, slice_get, slice_get-get_or, get_or_from_slice_get, slice_get_within, keyed, no_slot, same_text, serial_of, serials_uploaded, shelf_by, Bool, Decided, IfSome, IsAgain, IsKept, IsShelfOf, IsUploadOf, Kept, List, LogEntry, None, Option, Made, Own, ShelfTable, Slot, Some, [], ap, arith, batch_at, bytes_eq, comes_first, common_steps, cond, earlier_place, effect_in, effect_of, effect_on, entry_at, entry_in, false, filter, fold, fold-append, get_or, get_or_append_left, get_or_default, get_or_push, has_reply, history_of, insert, insert_key, is_listed, is_status_of, kept_by, kept_in, keys_of, length, life_of, lists, lookup, may_stop, min, nat_tests, next_in, next_place, no_entry, no_shelf, not, nothing_kept, option_and_then, option_map, ordered, pack_state, refl, rules, serials_of, shelf_of, start_in, stopped_product, stops_in, subst, sym, take, take-append-drop, take_all, take_at, take_more, track_of, true, unwrap_or, without, ℕ, ◌∙◌}
 pub use Rattle.mv_repository.proofs.OrderLemmas.{ordered-ascends}
 pub use Rattle.mv_repository.proofs.StateLemmas.{known-grown}
 pub use Rattle.mv_repository.proofs.PlaceLemmas.{IsCutFor, not_twice, parted, stays_at}
@@ -14,7 +14,7 @@ pub use Rattle.mv_repository.proofs.UploadLemmas.{ArePacksOf, batch-kept, batch-
 pub use Rattle.mv_repository.proofs.ActiveLemmas.{active-all}
 pub use Rattle.mv_repository.proofs.AgainLemmas.{shelf-again, shelf-empty}
 pub use Rattle.mv_repository.proofs.UploadedLemmas.{found-any, named-longer, named-upload, new-more, new_count}
-pub use Rattle.mv_repository.proofs.SlotLemmas.{keys-keyed, lookup-insert, own-there, slot-named, spot-none, spot-there, slots-longer, written-behind, written-own, written-there}
+pub use Rattle.mv_repository.proofs.SlotLemmas.{keys-keyed, lookup-insert, own-there, spot-none, spot-there, written-behind, written-own, written-there}
 pub use Rattle.mv_repository.proofs.PutLemmas.{HasNoTrack, put-first, put-later, put-own, track-set}
 pub use Rattle.mv_repository.proofs.ShelvesLemmas.{IsShelved, listed_in, shelf-there, shelved-none, shelves-follow}
 pub use Rattle.mv_repository.proofs.CountedLemmas.{counted-whole, held-all, slots_in}

@@ -32,7 +32,7 @@ none stamp (entry ∷ log) h = by entry.item (none stamp log (λ place. h (suc p
     by (Receipt k reach query) later h = later
     by (Carried k other message) later h = (apart stamp other (λ e. h 0 (ap Some e)), later)
 
--- and where none does they are distinct
+-- where no stamp stands at two places, they are distinct
 pub distinct-stamps : (log : List LogEntry) → HasNoStampTwice log → HasDistinctStamps log
 unfolding IsDistinct
 distinct-stamps [] h = tt

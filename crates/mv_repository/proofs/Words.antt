@@ -24,10 +24,10 @@ pub use Rattle.mv_repository.specs.inside.Shelf.{AreShelfOf, IsAgain, IsPackOf, 
 pub use Rattle.mv_repository.specs.inside.Slots.{AreSlots, IsNamed, IsSpot, IsWritten, RoomySlots, SlotTable, keyed, no_slot, serial_hash, serial_of, serials_uploaded}
 pub use Rattle.mv_repository.specs.inside.Tables.{AreMastersOf, AreTablesOf, IsInquiriesOf, has_reply, inquiry_after, inquiry_of, is_master, no_inquiry, query_of}
 pub use Rattle.std.proofs.Common.{Bool, IfSome, List, None, OnErr, OnOk, Option, Result, Some, [], ap, append-nil, append_assoc, arith, cond, drop, false, filter, find, fold, get_or, inl, inr, insert, is_some, length, length-append, map, min, nat_eq, nat_lt, not, refl, rules, set, subst, suc, sym, take, true, true≢false, zero, ℕ, ◌∙◌}
-pub use Rattle.std.proofs.Math.Bool.{and-true, or-false, or-true}
+pub use Rattle.std.proofs.Math.Bool.{or-false, or-true}
 pub use Rattle.std.proofs.Math.ListN.{drop_of_length-le}
 pub use Rattle.std.proofs.Math.Seq.{take-add}
-pub use Rattle.std.proofs.lemmas.Bool.{and_parts, cond_both}
+pub use Rattle.std.proofs.lemmas.Bool.{cond_both}
 pub use Rattle.std.proofs.lemmas.Bool.Decides.{nat_tests}
 pub use Rattle.std.proofs.lemmas.Grind.{common_steps, elements, flat_map-append}
 pub use Rattle.std.proofs.lemmas.List.{at_drop_more, drop-append-le, drop-drop, drop-map, drop_at, get_or_append_left, get_or_default, get_or_push, length-drop, length-map, length-take-le, take-append-drop, take-append-le, take-map, take_all, take_at, take_more, take_more_set}

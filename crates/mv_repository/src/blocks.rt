@@ -35,7 +35,7 @@ fn number_of(sender: Party) -> Party
     sender % PARTIES_LIMIT as u32
 }
 
-/// These senders, with that of the status at a place where it is a revert.
+/// These senders, with that of the status at a place, where that is a revert.
 fn with_reverter(log: &[LogEntry], reverters: PartySet, place: u32) -> PartySet
     ensures covered { IsCovered result (entry_at log.now place) }
     ensures more { (other : ℕ) → has_party reverters (other % PARTIES_LIMIT) ≡ true → has_party result (other % PARTIES_LIMIT) ≡ true }

@@ -58,9 +58,9 @@ const MOST_SERIALS: usize = 1 << 16;
 /// What is kept of the packs of a product.
 #[derive(Drop)]
 pub(crate) struct Shelf {
-    /// What stands for each serial number that an upload or a status names.
+    /// What stands for each serial number that an upload or a status names, and the numbers of the packs that have a track.
     slots: Slots,
-    /// The tracks of the packs that have a status.
+    /// The tracks of these, by their numbers.
     tracks: Vec<Track>,
     /// The numbers of the tracks by batch.
     listing: Listing,

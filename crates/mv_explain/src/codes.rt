@@ -36,6 +36,7 @@ fn sentence_in(mut rows: &[&'static str], code: &str) -> Option<&'static str>
 }
 
 /// The code of a row, and its sentence.
+#[tactic(auto, using(std::proofs::lemmas::Str::Pattern::split_once_first))]
 fn parts_of(row: &'static str) -> (&'static str, &'static str)
     ensures code { result.0.now ≡ code_in row.now }
     ensures sentence { result.1.now ≡ after_first (λ byte. byte == 32) row.now }

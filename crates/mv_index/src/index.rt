@@ -42,6 +42,7 @@ impl Bucket {
     }
 
     /// Puts one more number into it, which has a hash; gives one more than the number before it.
+    #[tactic(auto, using(crate::proofs::ChainLemmas::part_own, crate::proofs::ChainLemmas::part_kept))]
     fn put(&mut self, number: u32, hash: u32) -> u32
         requires { number + 1 < 2 ^ 32 }
         ensures before { result ≡ self.old.last }

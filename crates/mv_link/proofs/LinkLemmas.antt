@@ -1,5 +1,5 @@
 -- Lemmas on links.
-use Rattle.mv_link.proofs.Words.{◌≡◌, ℕ, ◌+◌, ◌-◌, List, [], ◌∷◌, ◌++◌, length, take, drop, refl, sym, ◌∙◌, ap, arith, append_assoc, append-nil, length-append, Bool, true, false, cond, drop-cons, Some, slice_get, All, ◌==◌, All-tail, eqb-true, nat_tests}
+use Rattle.mv_link.proofs.Words.{◌≡◌, ◌≤◌, ℕ, ◌+◌, ◌-◌, List, [], ◌∷◌, ◌++◌, length, take, drop, ap, arith, append_assoc, append-nil, length-append, cond, drop-cons, Some, slice_get, All, ◌==◌, All-tail, nat_tests}
 use Rattle.std.proofs.lemmas.List.{take-append-drop}
 use Rattle.std.proofs.lemmas.Grind.{common_steps}
 use Rattle.std.proofs.lemmas.Option.{gets, slice_get_within}
@@ -7,7 +7,7 @@ use Rattle.circular_buffer.proofs.Places.{slice_get-append_left}
 use Rattle.mv_link.specs.declared.item.Item.{Item}
 use Rattle.mv_link.specs.declared.item.Frame.{Frame}
 use Rattle.mv_link.specs.Frames.{IsFrameOf, accepted_after, accepted, OneMoreFrame}
-use Rattle.mv_link.specs.Receiving.{look_at, AcceptsNext}
+use Rattle.mv_link.specs.Receiving.{look_at, AcceptsNext, IsAcceptedAs}
 use Rattle.mv_link.specs.Sending.{Sending, with_item, EndsWithHeld}
 use Rattle.mv_link.specs.declared.incoming.Look.TheVariants as look
 
@@ -27,21 +27,19 @@ of_longer list more frame of = grind (arith, slice_get-append_left, slice_get_wi
 member_first : (list : List Item) (place : ℕ) (item : Item) → slice_get list place ≡ Some item → drop place list ≡ item ∷ drop (place + 1) list
 member_first list place item at = grind (arith, common_steps, gets, drop-cons list place item)
 
--- what is accepted from a place on is a front of the list from there on
-pub accepted_front : (list : List Item) (frames : List Frame) (count : ℕ) → All (IsFrameOf list) frames → (rest : List Item) × (drop count list ≡ accepted_after count frames ++ rest)
-accepted_front list [] count valid = (drop count list, refl)
-accepted_front list (frame ∷ frames) count valid = by (frame.number == (count + 1)) refl (λ n. accepted_front list frames n (All-tail (IsFrameOf list) frame frames valid))
-  where
-    here : IsFrameOf list frame
-    here = valid 0 frame (omega arith)
+-- what is accepted from a place on stands in the list from there on
+accepted_at : (list : List Item) (frames : List Frame) (count : ℕ) → All (IsFrameOf list) frames
+    → drop count list ≡ accepted_after count frames ++ drop (count + length (accepted_after count frames)) list
+accepted_at list [] count valid = ap (λ n. drop n list) (omega arith)
+accepted_at list (frame ∷ frames) count valid =
+    let here : IsFrameOf list frame = valid 0 frame (omega arith) in
+    let others = All-tail (IsFrameOf list) frame frames valid in
+    let next = accepted_at list frames (count + 1) others in
+    grind (arith, nat_tests, here, member_first list count frame.item, next, accepted_at list frames count others)
 
-    by : (b : Bool) → (frame.number == (count + 1)) ≡ b → ((n : ℕ) → (rest : List Item) × (drop n list ≡ accepted_after n frames ++ rest))
-        → (rest : List Item) × (drop count list ≡ cond b (frame.item ∷ accepted_after (count + 1) frames) (accepted_after count frames) ++ rest)
-    by true e later =
-        let place : frame.number - 1 ≡ count = omega (arith, eqb-true frame.number (count + 1) e) in
-        let rest = later (count + 1) in
-        (rest.0, member_first list count frame.item (ap (λ n. slice_get list n) (sym place) ∙ here.1) ∙ ap (λ l. frame.item ∷ l) rest.1)
-    by false e later = later count
+-- so it is a front of the list from there on
+pub accepted_front : (list : List Item) (frames : List Frame) (count : ℕ) → All (IsFrameOf list) frames → (rest : List Item) × (drop count list ≡ accepted_after count frames ++ rest)
+accepted_front list frames count valid = (_, accepted_at list frames count valid)
 
 -- one more frame, behind those that came after so many were accepted
 pub accepted-push : (count : ℕ) (frames : List Frame) (frame : Frame)
@@ -52,6 +50,16 @@ accepted-push count (first ∷ frames) frame = grind (arith, accepted-push (coun
 -- so it is accepted just where its number is the next
 pub one_more : (frames : List Frame) (frame : Frame) → OneMoreFrame frames frame
 one_more frames frame = grind (arith, accepted-push, append-nil)
+
+-- and what is accepted is as it stands
+pub old_kept : (count : ℕ) (frame : Frame) → frame.number ≤ count → IsAcceptedAs count frame look.Old
+old_kept count frame old frames counted = (one_more frames frame).old (omega (arith, counted))
+
+pub next_taken : (count : ℕ) (frame : Frame) → frame.number ≡ count + 1 → IsAcceptedAs count frame look.Next
+next_taken count frame next frames counted = (one_more frames frame).next (omega (arith, counted))
+
+pub gap_kept : (count : ℕ) (frame : Frame) → look.Gap (count + 1) ≡ look_at count frame.number → IsAcceptedAs count frame (look.Gap (count + 1))
+gap_kept count frame gap frames counted = grind (arith, nat_tests, one_more frames frame)
 
 -- a number that is the next
 pub next-number : (count number : ℕ) → look_at count number ≡ look.Next → number ≡ count + 1

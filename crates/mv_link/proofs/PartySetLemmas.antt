@@ -1,28 +1,22 @@
 -- Sets of parties, by the bits of their words.
-use Rattle.mv_link.proofs.Words.{◌≡◌, ℕ, ◌-◌, ◌*◌, ◌^◌, ◌/◌, ◌%◌, ◌<◌, ◌≤◌, min, max, Bool, true, false, not, ◌&&◌, ◌||◌, [], ◌∷◌, length, w64, bit_and, bit_or, refl, arith, inl, inr, ◌==◌, IsStrictlyIncreasing, cases_eq, cases_lt, eq-eqb, has_party, length-range_with_len, nat_tests, parties_in, range_with_len, those}
-use Rattle.std.specs.Int.{bit_at, trailing_zeros}
+use Rattle.mv_link.proofs.Words.{◌≡◌, ℕ, ◌-◌, ◌*◌, ◌^◌, ◌/◌, ◌%◌, ◌<◌, ◌≤◌, Bool, true, false, not, ◌&&◌, ◌||◌, [], ◌∷◌, length, w64, bit_and, bit_or, refl, arith, inl, inr, ◌==◌, IsStrictlyIncreasing, cases_eq, cases_lt, eq-eqb, has_party, length-range_with_len, nat_tests, parties_in, range_with_len, those}
+use Rattle.std.specs.Int.{trailing_zeros}
 use Rattle.std.proofs.lemmas.Nat.{and_le_l}
 use Rattle.std.proofs.lemmas.Nat.Bits.{bit_at-lt, bit_at-zero, bit_at_and, bit_at_or, bit_at_above, bit_at_set_same, bit_at_set_other, bit_at_clear_same, bit_at_clear_other, bit_at-trailing_zeros, bit_at_ones, shr_and_one}
 use Rattle.std.proofs.lemmas.List.Filters.{length-filter_both}
 use Rattle.mv_link.specs.declared.party_set.PartySet.{PartySet}
-use Rattle.mv_link.proofs.NumberLemmas.{increasing-those, passing-none, passing-first, those-within}
-
-both-bits : (x y : ℕ) → x < 2 → y < 2 → (min x y == 1) ≡ ((x == 1) && (y == 1))
-both-bits x y p q = grind (arith, nat_tests)
-
-either-bit : (x y : ℕ) → x < 2 → y < 2 → (max x y == 1) ≡ ((x == 1) || (y == 1))
-either-bit x y p q = grind (arith, nat_tests)
+use Rattle.mv_link.proofs.NumberLemmas.{increasing-those, passing-first, passing-within}
 
 -- what each change of a word does to the parties of its set
 pub has_and : (a b : PartySet) (party : ℕ)
     → has_party (record { bits = bit_and a.bits b.bits }) party ≡ (has_party a party && has_party b party)
 unfolding has_party
-has_and a b party = grind (arith, bit_at_and, both-bits, bit_at-lt)
+has_and a b party = grind (arith, bit_at_and, bit_at-lt, nat_tests)
 
 pub has_or : (a b : PartySet) (party : ℕ)
     → has_party (record { bits = bit_or a.bits b.bits }) party ≡ (has_party a party || has_party b party)
 unfolding has_party
-has_or a b party = grind (arith, bit_at_or, either-bit, bit_at-lt)
+has_or a b party = grind (arith, bit_at_or, bit_at-lt, nat_tests)
 
 pub has_with : (set : PartySet) (party other : ℕ) → party < 64
     → has_party (record { bits = bit_or set.bits (1 * 2 ^ party % 2 ^ 64) }) other ≡ (has_party set other || (other == party))
@@ -58,7 +52,8 @@ rest_in set rest some fits without =
 -- a word without bits
 pub none_in : (set : PartySet) → set.bits ≡ 0 → parties_in set ≡ []
 unfolding has_party parties_in
-none_in set none = passing-none (λ x. bit_at set.bits x == 1) 0 64 (λ x low high. rw (none, bit_at-zero x))
+none_in set none =
+    passing-within (has_party set) (has_party set) 0 64 0 (omega arith) (λ x low high. absurd (omega arith)) (λ x low high. rw (none, bit_at-zero x))
 
 -- and no set has more than there may be
 pub few-in : (set : PartySet) → length (parties_in set) ≤ 64
@@ -69,16 +64,13 @@ few-in set = omega (arith, length-filter_both (has_party set) (λ x. not (has_pa
 pub listed-in : (set : PartySet) (test : ℕ → Bool) (n : ℕ) → n ≤ 64 → ((party : ℕ) → party < n → has_party set party ≡ test party)
     → ((party : ℕ) → n ≤ party → has_party set party ≡ false) → parties_in set ≡ those test n
 unfolding parties_in
-listed-in set test n few same none = those-within (has_party set) test n 64 few same none
+listed-in set test n few same none =
+    passing-within (has_party set) test 0 64 n few (λ x low high. same x (omega arith)) (λ x low high. none x (omega arith))
 
--- what a bit says, and the words of no bit and of all
+-- what a bit says, and the word of all bits
 pub has_is : (set : PartySet) (party : ℕ) → (bit_and (set.bits / 2 ^ party) 1 == 1) ≡ has_party set party
 unfolding has_party
 has_is set party = rw (shr_and_one set.bits party)
-
-pub has_none : (party : ℕ) → has_party (record { bits = 0 }) party ≡ false
-unfolding has_party
-has_none party = rw (bit_at-zero party)
 
 pub has_all : (party : ℕ) → party < 64 → has_party (record { bits = 2 ^ 64 - 1 }) party ≡ true
 unfolding has_party
@@ -87,7 +79,7 @@ has_all party below = rw (bit_at_ones 64 party below)
 -- the parties of a set ascend
 pub increasing-in : (set : PartySet) → IsStrictlyIncreasing (parties_in set)
 unfolding parties_in
-increasing-in set = increasing-those _ (has_party set) 64 refl
+increasing-in set = increasing-those (has_party set) 64
 
 -- a word without bits has no party
 pub empty_has : (set : PartySet) (party : ℕ) → set.bits ≡ 0 → has_party set party ≡ false

@@ -54,6 +54,7 @@ impl Incoming {
     }
 
     /// How a frame stands to what was accepted. Nothing changes.
+    #[tactic(auto, using(crate::proofs::LinkLemmas::old_kept, crate::proofs::LinkLemmas::next_taken, crate::proofs::LinkLemmas::gap_kept))]
     pub fn look(&self, frame: &Frame) -> Look
         ensures value { result ≡ look_at self.now frame.now.number }
         // Where it is the next it is accepted behind what was; where it is not, what is accepted stays as it was.

@@ -4,6 +4,7 @@ ghost use Rattle.mv_link.specs.Frames.{AcceptedIsPrefix, OneMoreFrameIsLookedAt}
 
 /// Whatever frames of a list come, lost, repeated or out of order: what is accepted of them is a prefix of the list, in
 /// order and each item once.
+#[tactic(auto, using(crate::proofs::LinkLemmas::accepted_front))]
 pub fn accepted_is_prefix()
     ensures { AcceptedIsPrefix }
 {}

@@ -16,7 +16,7 @@ pub struct PartySet {
 
 impl PartySet {
     /// The set of no party.
-    #[tactic(auto, using(crate::proofs::PartySetLemmas::has_none))]
+    #[tactic(auto, using(crate::proofs::PartySetLemmas::empty_has))]
     pub fn none() -> PartySet
         ensures { (party : ℕ) → has_party result party ≡ false }
     {
@@ -64,7 +64,7 @@ impl PartySet {
         }
     }
 
-    /// The parties that one of two sets has.
+    /// The parties that at least one of two sets has.
     #[tactic(auto, using(crate::proofs::PartySetLemmas::has_or))]
     pub fn or(self, other: PartySet) -> PartySet
         ensures { (party : ℕ) → has_party result party

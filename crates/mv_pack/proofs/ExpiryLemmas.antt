@@ -1,7 +1,6 @@
 -- Day numbers of the century 20, and dates as six digits.
-use Rattle.mv_pack.proofs.Words.{List, Ok, and_parts, arith, cond, is_digit, length, list_all, nat_tests, pos, true, ℕ, ◌&&◌, ◌+◌, ◌<◌, ◌==◌, ◌≡◌, ◌≤ℤ◌, ◌≤◌}
-use Rattle.mv_pack.proofs.TextLemmas.{passes_at, chosen_ok}
-use Rattle.mv_pack.specs.declared.fault.PackFault.TheVariants.{Date}
+use Rattle.mv_pack.proofs.Words.{List, Ok, arith, cond, is_digit, length, list_all, nat_tests, pos, true, ℕ, ◌+◌, ◌<◌, ◌==◌, ◌≡◌, ◌≤ℤ◌, ◌≤◌}
+use Rattle.mv_pack.proofs.TextLemmas.{passes_at}
 use Rattle.jiff_core.specs.Calendar.{days_from_civil}
 use Rattle.jiff_core.proofs.CalendarLemmas.{day_count-lt_year}
 use Rattle.mv_pack.specs.Expiry.{CivilDate, IsExpiry, day_of, dated, two_digits_at, expiry_text, read_expiry}
@@ -26,12 +25,9 @@ dated_is_expiry year month day date from until h = grind (arith, nat_tests, pos,
 -- what is read is a date of the range
 pub read_expiry_is_expiry : (t : List ℕ) (date : CivilDate) → read_expiry t ≡ Ok date → IsExpiry date
 read_expiry_is_expiry t date h =
-    let reading = dated (2000 + two_digits_at 0 t) (two_digits_at 2 t) (two_digits_at 4 t) in
-    let chosen = chosen_ok ((length t == 6) && list_all is_digit t) reading Date date h in
-    let tests = and_parts (length t == 6) (list_all is_digit t) chosen.0 in
-    let six : length t ≡ 6 = grind (arith, nat_tests, tests.0) in
-    let year = two_digits_below t 0 tests.1 (omega arith) in
-    dated_is_expiry (2000 + two_digits_at 0 t) (two_digits_at 2 t) (two_digits_at 4 t) date (omega arith) (omega arith) chosen.1
+    let year = two_digits_below t 0 in
+    let kept = dated_is_expiry (2000 + two_digits_at 0 t) (two_digits_at 2 t) (two_digits_at 4 t) date in
+    grind (arith, year, kept)
 
 -- a date's text is read as the date
 pub read_expiry_text : (d : CivilDate) → IsExpiry d → read_expiry (expiry_text d) ≡ Ok d

@@ -1,14 +1,11 @@
 -- Texts of capital letters.
-use Rattle.mv_pack.proofs.Words.{IsUtf8, List, Ok, arith, common_steps, get_or, list_all, nat_tests, true, ℕ, ◌<◌, ◌≡◌, ◌≤◌}
+use Rattle.mv_pack.proofs.Words.{IsUtf8, List, Ok, arith, common_steps, get_or, list_all, nat_tests, true, ℕ, ◌≡◌, ◌≤◌}
 use Rattle.mv_pack.specs.Market.{is_capital, IsMarket, read_market}
 use Rattle.mv_pack.proofs.TextLemmas.{text_of_ascii}
 
-capital_below : (c : ℕ) → is_capital c ≡ true → c < 128
-capital_below c h = grind (arith, nat_tests)
-
 -- capital letters are text
 pub capitals_are_text : (xs : List ℕ) → list_all is_capital xs ≡ true → IsUtf8 xs
-capitals_are_text xs all = text_of_ascii is_capital capital_below xs all
+capitals_are_text xs all = text_of_ascii is_capital (λ c h. grind (arith, nat_tests)) xs all
 
 -- what is read is a market
 pub read_market_is_market : (t m : List ℕ) → read_market t ≡ Ok m → IsMarket m

@@ -1,5 +1,5 @@
 -- Serial numbers, batch numbers and national numbers, as texts, by the GS1 General Specifications.
-use Rattle.std.specs.Prelude.{ℕ, ◌+◌, ◌-◌, ◌++◌, ◌≤◌, ◌==◌, ◌&&◌, ◌||◌, not, Bool, List, length, replicate, nat_le, nat_lt, if◌then◌else◌, IsTrue, Option, Some, None, Result, Ok, Err}
+use Rattle.std.specs.Prelude.{ℕ, ◌+◌, ◌-◌, ◌∷◌, ◌++◌, [], ◌≤◌, ◌==◌, ◌&&◌, ◌||◌, not, Bool, List, length, take, drop, replicate, nat_le, nat_lt, if◌then◌else◌, IsTrue, Option, Some, None, Result, Ok, Err}
 use Rattle.mv_pack.specs.Words.{Character, Empty, PackFault, TooLong, list_all, position_from}
 use Rattle.mv_pack.specs.Gtin.{is_digit}
 use Rattle.mv_pack.specs.Market.{is_capital}
@@ -42,6 +42,10 @@ read_code text =
     else (if nat_lt most_code_bytes (length text) then Err TooLong
     else read_characters text (first_wrong text))
 
--- a text with zeros behind it, 20 bytes in all: what a code is hashed by
+-- a text with zeros behind it, 20 bytes in all
 abbrev pub filled_up : List ℕ → List ℕ
 filled_up text = text ++ replicate (most_code_bytes - length text) 0
+
+-- what a code is hashed by: the first 16 of these bytes, and the others
+abbrev pub code_pieces : List ℕ → List (List ℕ)
+code_pieces text = take 16 (filled_up text) ∷ drop 16 (filled_up text) ∷ []

@@ -2,11 +2,11 @@
 //!
 //! The three are one type with a marker, so that reading, equality, order and hash are written once.
 
-ghost use Rattle.std.specs.Prelude.{◌≡◌, ◌<◌, ◌≤◌, ◌↔◌, ◌∷◌, [], length, take, drop, nat_eq, refl, IsOk, IfSome, IsTrue, MatchResult, Ok, Err, Some, None};
+ghost use Rattle.std.specs.Prelude.{◌≡◌, ◌<◌, ◌≤◌, ◌↔◌, length, nat_eq, refl, IsOk, IfSome, IsTrue, MatchResult, Ok, Err, Some, None};
 ghost use Rattle.mv_pack.specs.Words.{count_by, hashing, nat_cmp, nat_list_cmp_total, nat_list_eq_equiv, pointwise, slice_cmp, texts_po, texts_ties};
 ghost use Rattle.std.specs.Cmp.{partial_equiv_from_equiv};
 ghost use Rattle.std.proofs.Common.{rules};
-ghost use Rattle.mv_pack.specs.Code.{filled_up, is_code_character, is_mark, first_wrong, most_code_bytes, read_code, IsCode};
+ghost use Rattle.mv_pack.specs.Code.{code_pieces, filled_up, is_code_character, is_mark, first_wrong, most_code_bytes, read_code, IsCode};
 ghost use Rattle.mv_pack.specs.inside.Code.{is_filled, text_before, IsFilledUp};
 
 use crate::PackFault;
@@ -66,7 +66,7 @@ impl<K> Code<K> {
     ///
     /// The first of these that holds is the fault: P4, no byte; P5, more than 20 bytes; P6, a byte that is no character
     /// of codes (GS1 General Specifications, section 7.11).
-    #[tactic(auto, using(crate::proofs::CodeLemmas::read_code_of, crate::proofs::CodeLemmas::no_fault))]
+    #[tactic(auto, using(crate::proofs::CodeLemmas::read_code_of, crate::proofs::CodeLemmas::no_fault, crate::proofs::CodeLemmas::text_filled_up, crate::proofs::CodeLemmas::code_filled_up))]
     pub fn read(text: &str) -> Result<Code<K>, PackFault>
         ensures exact { result ≡ read_code text.now }
         ensures accepted { IsOk result ↔ IsCode text.now }
@@ -98,6 +98,7 @@ impl<K> Code<K> {
 }
 
 /// The text with zeros behind it.
+#[tactic(auto, using(crate::proofs::CodeLemmas::two_pieces))]
 fn filled_up(text: &[u8]) -> [u8; MOST_CODE_BYTES]
     requires { length text.now ≤ most_code_bytes }
     ensures { result ≡ filled_up text.now }
@@ -115,7 +116,6 @@ fn filled_up(text: &[u8]) -> [u8; MOST_CODE_BYTES]
 }
 
 /// What stands before the zeros.
-#[tactic(auto, using(crate::proofs::CodeLemmas::filled_counted))]
 fn text_before(bytes: &[u8; MOST_CODE_BYTES]) -> &[u8]
     requires { IsFilledUp bytes.now }
     ensures { result.now ≡ text_before bytes.now }
@@ -252,7 +252,7 @@ impl<K> Ord for Code<K> {
 /// By all its bytes, in two writes: of the first 16 and of the others, as a code is copied. A hasher that took the last 16 at
 /// once would wait until a fresh copy has left the processor's buffer of stores.
 impl<K> Hash for Code<K> {
-    ghost hash_input = { λ text. take 16 (filled_up text) ∷ drop 16 (filled_up text) ∷ [] };
+    ghost hash_input = { code_pieces };
 
     ghost respects_eq = { Prim.search (hashing, rules) };
 

@@ -1,9 +1,10 @@
 -- Reads of a table that was written: what the proofs of other crates cite of tables.
 use Rattle.std.proofs.lemmas.Grind.{common_steps}
-use Rattle.std.proofs.Common.{◌≡◌, ◌≢◌, ℕ, zero, suc, ◌<◌, List, [], ◌∷◌, length, map, get_or, set, sym, refl, ap, ◌∙◌, subst, arith, ◌⊎◌, get_or-set_same, get_or-set_other, rules, replicate}
+use Rattle.std.proofs.Common.{◌≡◌, ◌≢◌, ℕ, ◌<◌, List, [], ◌∷◌, length, map, get_or, set, sym, refl, ap, ap₂, ◌∙◌, subst, arith, ◌⊎◌, get_or-set_same, get_or-set_other, rules, replicate}
 use Rattle.std.proofs.lemmas.List.{get_or_default, set_past, get_or-replicate, length-replicate, set-get_or, length-map, length-set, map-set, get_or-map as get_or-map-within}
 use Rattle.std.proofs.Math.ListN.{get_or-map}
 use Rattle.std.specs.List.{All}
+use Rattle.std.proofs.lemmas.List.Elements.{All-tail}
 use Rattle.std.specs.declared.alloc.Global.{Global}
 use Rattle.std.specs.declared.vec.Vec.{Vec}
 use Rattle.std.specs.Vec.{with_item}
@@ -48,18 +49,15 @@ pub square-map : {A B : Type 0} (n : ℕ) (f : A → B) (t : List (List A)) → 
 square-map n f t h = record { rows = grind (arith, length-map); row = λ s p. ap length (get_or-map (map f) t s []) ∙ length-map (get_or t s []) f ∙ h.row s p }
 
 -- where f gives x at each value, the table of what f gives is full of x
-map-all : {A B : Type 0} (f : A → B) (x : B) (n : ℕ) (xs : List A) → length xs ≡ n → All (λ v. f v ≡ x) xs → map f xs ≡ replicate n x
-map-all f x zero [] e a = refl
-map-all f x (suc n) [] e a = absurd (omega (arith, e))
-map-all f x zero (v ∷ xs) e a = absurd (omega (arith, e))
-map-all f x (suc n) (v ∷ xs) e a =
-    let head : f v ≡ x = a 0 v (omega arith) in
-    ap (λ l. f v ∷ l) (map-all f x n xs (omega (arith, e)) (λ k d lt. a (suc k) d (omega (arith, lt)))) ∙ ap (λ y. y ∷ replicate n x) head
+map-all : {A B : Type 0} (f : A → B) (x : B) (xs : List A) → All (λ v. f v ≡ x) xs → map f xs ≡ replicate (length xs) x
+map-all f x [] a = refl
+map-all f x (v ∷ xs) a = ap₂ (λ y l. y ∷ l) (a 0 v (omega arith)) (map-all f x xs (All-tail (λ v. f v ≡ x) v xs a))
 
 pub table-all : {A B : Type 0} (f : A → B) (x : B) (n : ℕ) (t : List (List A)) → IsSquare n t → All (All (λ v. f v ≡ x)) t → map (map f) t ≡ replicate n (replicate n x)
 table-all f x n t h a =
-    map-all (map f) (replicate n x) n t h.rows
-    (λ k d lt. map-all f x n (get_or t k d) (ap length (get_or_default t k d [] lt) ∙ h.row k (subst (λ m. k < m) h.rows lt)) (a k d lt))
+    map-all (map f) (replicate n x) t
+    (λ k d lt. map-all f x (get_or t k d) (a k d lt) ∙ ap (λ m. replicate m x) (grind (arith, get_or_default t k d [] lt, h.rows, h.row k)))
+    ∙ ap (λ m. replicate m (replicate n x)) h.rows
 
 -- to put back what was read changes nothing
 pub put-read : {A : Type 0} (t : List (List A)) (s r : ℕ) (v d : A) → v ≡ cell t s r d → put t s r v ≡ t

@@ -1,12 +1,11 @@
 -- What a party keeps with one more submission, and with one more item of its repository.
-use Rattle.mv_party.proofs.Words.{◌≡◌, ℕ, ◌+◌, ◌<◌, ◌≤◌, ◌≢◌, Bool, false, List, [], ◌∷◌, ◌++◌, length, cond, set, get_or, length-set, eqb, Option, Some, None, Ok, refl, arith, length-append, option_to_list, IsLawfulParty, IsSite, Item, LogEntry, Message, SiteState, answer_fault, answer_to, answers_in, ask_fault, count_from, entry_from, is_query_or_answer, site_of, submit_fault, unless_fault}
+use Rattle.mv_party.proofs.Words.{◌≡◌, ℕ, ◌+◌, ◌<◌, ◌≤◌, Bool, false, List, [], ◌∷◌, ◌++◌, length, cond, set, get_or, length-set, eqb, Option, Some, None, Ok, refl, arith, length-append, option_to_list, IsLawfulParty, IsSite, Item, LogEntry, Message, SiteState, answer_fault, answer_to, answers_in, ask_fault, count_from, entry_from, is_query_or_answer, site_of, submit_fault, unless_fault}
 use Rattle.std.specs.List.{AllByRecursion, count_by}
 use Rattle.std.proofs.lemmas.Bool.{cases_eq}
 use Rattle.std.proofs.lemmas.Bool.Decides.{nat_tests}
 use Rattle.std.proofs.lemmas.Grind.{elements}
 use Rattle.std.proofs.lemmas.List.Recursion.{is_count_by}
 use Rattle.mv_repository.specs.Repository.{items_from, RepositoryState, with_applied as repository_with}
-use Rattle.mv_party.specs.declared.fault.SiteFault.{SiteFault}
 use Rattle.mv_party.proofs.AnswerLemmas.{answers_in-more, answers_in-applied}
 
 -- the items of a party once an entry is last
@@ -30,53 +29,37 @@ pub party-applied : (count : ℕ) (submissions : List Message) (log : List LogEn
 party-applied count submissions log entry lawful from_party = grind (arith, answers_in-applied, from_parties-push)
 
 -- one more submission that is no answer
-pub submitted-kept : (site : SiteState) (accepted : List ℕ) (messages : List Message) (message : Message) → IsSite site accepted → length site.submissions < site.limit
+pub submitted_kept : (site : SiteState) (accepted : List ℕ) (messages : List Message) (message : Message) → IsSite site accepted → length site.submissions < site.limit
     → answers_in (message ∷ []) ≡ [] → messages ≡ site.submissions ++ message ∷ [] → IsSite (record site { submissions = messages }) accepted
-submitted-kept site accepted messages message k room none more = grind (arith, party-submitted, length-append)
+submitted_kept site accepted messages message k room none more = grind (arith, party-submitted, length-append)
 
--- where a party can submit, its uplink has room, and it may submit more
-pub ask-free : (full : Bool) (site : SiteState) → ask_fault full site ≡ None → (full ≡ false) × (length site.submissions ≢ site.limit)
-ask-free full site free = (grind (arith, free), grind (arith, free))
-
+-- where a message can be submitted, it is neither a query nor an answer, and there is room
 pub submit-free : (full : Bool) (site : SiteState) (message : Message) → submit_fault full site message ≡ None
     → (is_query_or_answer message ≡ false) × (ask_fault full site ≡ None)
 submit-free full site message free = (grind (arith, free), grind (arith, free))
 
--- where it can submit an answer, it can submit
-pub answer-free : (full : Bool) (site : SiteState) (answer : Message) → answer_fault full site (Some answer) ≡ None → ask_fault full site ≡ None
-answer-free full site answer free = grind (arith, free)
-
--- and then there is room for it
+-- where the answer can be submitted, there is room for it
 pub answer-room : (full : Bool) (site : SiteState) (answer : Option Message) → length site.submissions ≤ site.limit → answer_fault full site answer ≡ None
     → length (site.submissions ++ option_to_list answer) ≤ site.limit
 answer-room full site None few free = omega (arith, few, length-append site.submissions [])
-answer-room full site (Some answer) few free = grind (arith, ask-free full site (answer-free full site answer free), length-append)
-
--- where a call only tells of a fault, and tells of none, there is none
-no_fault : (fault : Option SiteFault) (done : Unit {0}) → Ok done ≡ unless_fault fault → fault ≡ None
-no_fault fault done told = grind (arith, told)
-
--- how many items of each party are in a log, once one more is
-count-push : (log : List LogEntry) (sender : ℕ) (item : Item) (party : ℕ)
-    → count_from (log ++ entry_from sender item ∷ []) party ≡ count_from log party + cond (eqb sender party) 1 0
-count-push log sender item party = rw (items_from-push log (entry_from sender item) party, length-append) (grind arith)
+answer-room full site (Some answer) few free = grind (arith, free, length-append site.submissions (answer ∷ []))
 
 -- how many items of each party were accepted, once one more is
 accepted-push : (log : List LogEntry) (accepted : List ℕ) (sender : ℕ) (item : Item) (party : ℕ) → sender < length accepted
     → get_or accepted sender 0 ≡ count_from log sender → get_or accepted party 0 ≡ count_from log party
     → get_or (set accepted sender (get_or accepted sender 0 + 1)) party 0 ≡ count_from (log ++ entry_from sender item ∷ []) party
-accepted-push log accepted sender item party lt own other = grind (arith, elements, cases_eq party sender, count-push log sender item party)
+accepted-push log accepted sender item party lt own other = grind (arith, elements, cases_eq party sender, items_from-push log (entry_from sender item) party, length-append {A = Item})
 
 -- one more item, and the answer that it calls for
-pub applied-kept : (limit : ℕ) (submissions messages : List Message) (old new : RepositoryState) (accepted : List ℕ) (sender : ℕ) (item : Item) (count : ℕ) (full : Bool) (done : Unit {0})
+pub applied_kept : (limit : ℕ) (submissions messages : List Message) (old new : RepositoryState) (accepted : List ℕ) (sender : ℕ) (item : Item) (count : ℕ) (full : Bool) (done : Unit {0})
     → IsSite (site_of limit submissions old (length accepted)) accepted → sender < length accepted
     → Ok done ≡ unless_fault (answer_fault full (site_of limit submissions old (length accepted)) (answer_to old.log (entry_from sender item)))
     → messages ≡ submissions ++ option_to_list (answer_to old.log (entry_from sender item)) → new ≡ repository_with old sender item → count ≡ get_or accepted sender 0 + 1
     → IsSite (site_of limit messages new (length (set accepted sender count))) (set accepted sender count)
-applied-kept limit submissions messages old new accepted sender item count full done k lt told more applied counted =
+applied_kept limit submissions messages old new accepted sender item count full done k lt told more applied counted =
     rw (length-set accepted sender count, counted, applied, more) (record {
       lawful = party-applied (length accepted) submissions old.log (entry_from sender item) k.lawful lt;
-      few = answer-room full (site_of limit submissions old (length accepted)) (answer_to old.log (entry_from sender item)) k.few (no_fault _ done told);
+      few = answer-room full (site_of limit submissions old (length accepted)) (answer_to old.log (entry_from sender item)) k.few (grind (arith, told));
       limit = k.limit;
       counts = λ party is_party. accepted-push old.log accepted sender item party lt (k.counts sender lt) (k.counts party is_party);
     })

@@ -1,5 +1,5 @@
 -- What stands before an entry that comes last.
-use Rattle.mv_repository.proofs.Words.{◌≡◌, ◌<◌, ◌∷◌, ◌||◌, ℕ, List, [], refl, ◌∙◌, ap, arith, Bool, true, false, cond, not, Option, Some, None, IfSome, is_some, find, filter, fold, nat_tests, list_any, AllByRecursion, BatchKey, PackKey, LogEntry, entries_before, Placed, passes, ordered, Ascends, KnownPack, is_recall_of, is_withdrawal_of, is_recalled_by, is_withdrawn_by, batch_standing, known_pack, FirstStops, first_stops, is_before, standing_at, is_upload_of, is_status_of, first_upload, statuses_of, pack_step, pack_grown}
+use Rattle.mv_repository.proofs.Words.{◌≡◌, ◌<◌, ◌∷◌, ℕ, List, [], refl, ◌∙◌, ap, arith, Bool, false, cond, not, Option, Some, None, IfSome, is_some, find, filter, fold, nat_tests, list_any, AllByRecursion, PackKey, LogEntry, entries_before, Placed, passes, ordered, Ascends, KnownPack, is_recall_of, is_withdrawal_of, batch_standing, known_pack, FirstStops, first_stops, is_before, standing_at, is_upload_of, is_status_of, first_upload, statuses_of, pack_step, pack_grown}
 use Rattle.mv_repository.proofs.OrderLemmas.{AreBelow, ordered-ascends, ordered-below, find-all}
 use Rattle.mv_repository.proofs.StateLemmas.{known-grown}
 use Rattle.mv_repository.proofs.TableLemmas.{first_in, find-first, newest, filter-ascends}
@@ -30,7 +30,7 @@ find-counted f x xs a = grind (arith, nat_tests, filter-ascends, filter-swap, fi
 -- one of a kind stands before x where the first of the kind does
 pub any-find : (f : Placed → Bool) (xs : List Placed) → list_any f xs ≡ is_some (find f xs)
 any-find f [] = refl
-any-find f (x ∷ xs) = elim (f x) as (λ b. (b || list_any f xs) ≡ is_some (cond b (Some x) (find f xs))) [ true ↦ refl | false ↦ any-find f xs ]
+any-find f (x ∷ xs) = grind (arith, nat_tests, any-find f xs)
 
 pub counted-before : (x : Placed) (o : Option Placed) → IfSome o (λ y. y.place < x.place) → is_some (counted x o) ≡ is_before o x
 counted-before x o h = grind (arith, nat_tests)
@@ -41,19 +41,12 @@ find-below f n xs u = find-all (λ y. y.place < n) f xs u
 pub any-before : (f : Placed → Bool) (x : Placed) (xs : List Placed) → Ascends xs → AreBelow x.place xs → list_any f (filter (stays_before x) xs) ≡ is_before (find f xs) x
 any-before f x xs a u = any-find f (filter (stays_before x) xs) ∙ ap is_some (find-counted f x xs a) ∙ counted-before x (find f xs) (find-below f x.place xs u)
 
--- a batch is recalled by the entries before one that comes last, where its first recall stands before that one
-pub recalled-before : (batch : BatchKey) (log : List LogEntry) (entry : LogEntry)
-    → is_recalled_by batch (entries_before log entry) ≡ is_before ((first_stops (ordered log)).recall batch) (newest log entry)
-recalled-before batch log entry = grind (arith, nat_tests, any-before (λ placed. is_recall_of batch placed.entry.item) (newest log entry) (ordered log) (ordered-ascends log) (ordered-below log))
-
--- the same of a product and its first withdrawal
-pub withdrawn-before : (gtin : List ℕ) (log : List LogEntry) (entry : LogEntry)
-    → is_withdrawn_by gtin (entries_before log entry) ≡ is_before ((first_stops (ordered log)).withdrawal gtin) (newest log entry)
-withdrawn-before gtin log entry = grind (arith, nat_tests, any-before (λ placed. is_withdrawal_of gtin placed.entry.item) (newest log entry) (ordered log) (ordered-ascends log) (ordered-below log))
-
 -- how a batch stands by the entries before one that comes last
 pub standing-before : (log : List LogEntry) (entry : LogEntry) → batch_standing (entries_before log entry) ≡ standing_at (first_stops (ordered log)) (newest log entry)
-standing-before log entry = grind (arith, nat_tests, recalled-before, withdrawn-before)
+standing-before log entry =
+    let before : (f : Placed → Bool) → list_any f (entries_before log entry) ≡ is_before (find f (ordered log)) (newest log entry) =
+    λ f. any-before f (newest log entry) (ordered log) (ordered-ascends log) (ordered-below log) in
+    λ i batch. record { recalled = before (λ placed. is_recall_of batch placed.entry.item) i; withdrawn = before (λ placed. is_withdrawal_of batch.gtin placed.entry.item) i }
 
 -- none of these is passed by x
 abbrev PassesNone : Placed → List Placed → Type 0
@@ -63,14 +56,10 @@ stay-none : (x : Placed) (xs : List Placed) → PassesNone x (filter (stays_befo
 stay-none x [] = tt
 stay-none x (y ∷ ys) = grind (arith, nat_tests, stay-none x ys)
 
--- an entry that x does not pass sees of those before x what it sees of all
-sees-counted : (x y : Placed) (o : Option Placed) → passes x y ≡ false → is_before (counted x o) y ≡ is_before o y
-sees-counted x y o e = grind (arith, nat_tests)
-
 standing-same : (x y : Placed) (xs : List Placed) → Ascends xs → passes x y ≡ false → standing_at (first_stops (filter (stays_before x) xs)) y ≡ standing_at (first_stops xs) y
 standing-same x y xs a e =
     let sees : (f : Placed → Bool) → is_before (find f (filter (stays_before x) xs)) y ≡ is_before (find f xs) y =
-    λ f. ap (λ (o : Option Placed). is_before o y) (find-counted f x xs a) ∙ sees-counted x y (find f xs) e in
+    λ f. grind (arith, nat_tests, find-counted f x xs a) in
     (λ i batch. record { recalled = sees (λ placed. is_recall_of batch placed.entry.item) i; withdrawn = sees (λ placed. is_withdrawal_of batch.gtin placed.entry.item) i })
 
 fold-same : (stops stops' : FirstStops) (pack : PackKey) (birth x : Placed) (held : KnownPack) (own : List Placed)

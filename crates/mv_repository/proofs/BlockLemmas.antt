@@ -52,9 +52,9 @@ module _ (entry : ℕ → Placed) (next : ℕ → ℕ → ℕ) (start : ℕ) (is
   blocks-longer by (b ∷ bs) xs ys h = grind (arith, nat_tests, blocks-longer (fold next by (take b.count xs)) bs (drop b.count xs) ys h.3, drop-append-le, length-append, take-append-le)
 
   -- a cut one block further
-  pub cut-next : (bs : List Block) (own : List ℕ) (cut : Cut) (b : Block) → cut.number < length bs → b ≡ get_or bs cut.number b → IsCut entry next start bs own cut
+  pub cut_next : (bs : List Block) (own : List ℕ) (cut : Cut) (b : Block) → cut.number < length bs → b ≡ get_or bs cut.number b → IsCut entry next start bs own cut
       → IsCut entry next start bs own (record { number = cut.number + 1; start = cut.start + b.count; by = b.after })
-  cut-next bs own cut b l read c = grind (arith, nat_tests, append_assoc, cut-drop, cut-length, cut-take, drop-drop, fold-append, got-drop, length-drop, take-add)
+  cut_next bs own cut b l read c = grind (arith, nat_tests, append_assoc, cut-drop, cut-length, cut-take, drop-drop, fold-append, got-drop, length-drop, take-add)
 
   pub fold-cut : (by n : ℕ) (xs : List ℕ) → fold next by xs ≡ fold next (fold next by (take n xs)) (drop n xs)
   fold-cut by n xs = ap (fold next by) (sym (take-append-drop n xs)) ∙ fold-append next by (take n xs) (drop n xs)
@@ -89,13 +89,8 @@ module _ (entry : ℕ → Placed) (next : ℕ → ℕ → ℕ) (start : ℕ) (is
         )))
 
   -- a status is put in, and is the last
-  module _ (own : List ℕ) (at : ℕ) (l : at + 1 ≡ length own) where
-    pub last-without : without own at ≡ take at own
-    last-without = ap (λ (t : List ℕ). take at own ++ t) (drop_of_length-le own (omega arith)) ∙ append-nil (take at own)
-
-    pub last-blocks : (bs : List Block) → AreBlocks entry next start start bs (without own at) → AreBlocks entry next start start bs own
-    last-blocks bs h =
-        subst (AreBlocks entry next start start bs) (ap (λ (t : List ℕ). t ++ drop at own) last-without ∙ take-append-drop at own) (blocks-longer start bs (without own at) (drop at own) h)
+  pub last-blocks : (own : List ℕ) (at : ℕ) (bs : List Block) → at + 1 ≡ length own → AreBlocks entry next start start bs (without own at) → AreBlocks entry next start start bs own
+  last-blocks own at bs l h = grind (arith, nat_tests, append-nil, blocks-longer start bs (take at own) (drop at own), drop_of_length-le, take-append-drop)
 
   -- it stands before others
   module _ (bs : List Block) (own : List ℕ) (at : ℕ) (cut : Cut) (l : at < length own) (le : cut.start ≤ at) (c : IsCut entry next start bs (without own at) cut) where
@@ -103,9 +98,7 @@ module _ (entry : ℕ → Placed) (next : ℕ → ℕ → ℕ) (start : ℕ) (is
     pub late-before : fold next cut.by (take (at - cut.start) (drop cut.start own)) ≡ fold next start (take at own)
     late-before =
         let whole : cut.start + (at - cut.start) ≡ at = omega arith in
-        ap (λ (n : ℕ). fold next n (take (at - cut.start) (drop cut.start own))) (c.by ∙ ap (fold next start) (take-without own at cut.start le l))
-        ∙ sym (fold-append next start (take cut.start own) (take (at - cut.start) (drop cut.start own)))
-        ∙ ap (fold next start) (sym (take-add cut.start (at - cut.start) own) ∙ ap (λ (n : ℕ). take n own) whole)
+        grind (arith, nat_tests, fold-append, take-add cut.start (at - cut.start) own, take-without)
 
     pub late-front : IsFront entry next start (take cut.number bs) own cut.by (drop cut.start own)
     late-front = grind (arith, nat_tests, take-append-drop, take-without)
@@ -117,11 +110,11 @@ module _ (entry : ℕ → Placed) (next : ℕ → ℕ → ℕ) (start : ℕ) (is
       late-rest : drop b.count (drop cut.start (without own at)) ≡ drop (b.count + 1) (drop cut.start own)
       late-rest = grind (arith, nat_tests, drop-drop, drop-without)
 
-      pub late-within : b.count + 1 ≤ length (drop cut.start own)
-      late-within = grind (arith, nat_tests, common_steps)
+      pub late_within : b.count + 1 ≤ length (drop cut.start own)
+      late_within = grind (arith, nat_tests, common_steps)
 
       -- it is worked out again
       module _ (new : Block) (rest some behind : List ℕ) (r : rest ≡ drop cut.start own) (s : some ≡ take (b.count + 1) rest) (t : behind ≡ drop (b.count + 1) rest)
           (a : new.after ≡ fold next cut.by some) (standing : ℕ) (e : standing ≡ fold next start (without own at)) (n : new.count ≡ b.count + 1) (m : IsSummary entry next start new some) where
         pub renewed : Renewed entry next start bs own cut standing b new behind
-        renewed = grind (arith, nat_tests, common_steps, fold-cut, late-fold, late-front, late-rest, late-within, set-take)
+        renewed = grind (arith, nat_tests, common_steps, fold-cut, late-fold, late-front, late-rest, late_within, set-take)

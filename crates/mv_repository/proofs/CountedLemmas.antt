@@ -1,196 +1,147 @@
 -- How many packs of a table are counted.
-use Rattle.mv_repository.proofs.Words.{AllByRecursion, AreTablesOf, keyed, length-append, length-keys_of, length-map, shelf_by, subst, true≢false, ◌+◌, Bool, Counted, IsDistinct, IsDistinct-cons, IsDistinct-head, IsDistinct-keys_filter, IsDistinct-tail, IsEquivalence, Kept, List, LogEntry, None, Option, PackKey, ShelfParts, ShelfTable, Slot, Some, Tables, [], ap, arith, bare, bytes_eq, common_steps, cond, distinct_count, distinct_count-le, false, filter, flat_map, is_counted, is_member, is_member-filter, is_same_pack, is_some, is_some-lookup, kept_by, kept_in, keys_of, length, length-from_keys, list_any-append, lookup, lookup-filter-values, map, min, nat_list_eq_equiv, nat_tests, no_shelf, not, option_filter, or-false, pack_key, refl, rules, same_text, shelf_of, slots_counted, sym, track_of, true, unwrap_or, uploaded_packs, ℕ, ◌&&◌, ◌++◌, ◌-◌, ◌<◌, ◌^◌, ◌||◌, ◌∙◌, ◌∷◌, ◌≡◌}
-use Rattle.std.proofs.lemmas.List.Filters.{length-filter_both}
-use Rattle.mv_repository.proofs.KeptLemmas.{same_pack, pack-self, pack-sym, text-self}
+use Rattle.mv_repository.proofs.Words.{count_by-le-length, length-filter, All-contains_itself, recursion_from_All, AllByRecursion, AreSlots, AreTablesOf, keyed, length-append, length-keys_of, shelf_by, subst, ◌+◌, Bool, Counted, IsDistinct, IsDistinct-head, IsDistinct-keys_filter, IsDistinct-tail, IsEquivalence, Kept, List, LogEntry, None, Option, PackKey, ShelfParts, Slot, Some, Tables, [], ap, arith, bytes_eq, cond, distinct_count, distinct_count-le, false, filter, filter-append, flat_map, get_or, is_counted, is_member, is_member-filter, is_same_pack, is_some, is_some-lookup, kept_by, kept_in, keys_of, length, length-from_keys, lookup, lookup-filter-values, map, min, nat_list_eq_equiv, nat_tests, no_shelf, nothing_kept, option_filter, option_map, option_or, pack_key, refl, rules, same_text, serial_of, shelf_of, slots_counted, sym, track_of, true, unwrap_or, uploaded_packs, ℕ, ◌&&◌, ◌++◌, ◌-◌, ◌<◌, ◌^◌, ◌∙◌, ◌∷◌, ◌≡◌}
+use Rattle.indexmap.proofs.MapLemmas.{absent_from_lookup}
+use Rattle.mv_repository.proofs.KeptLemmas.{same_pack, pack-self, pack-sym}
 use Rattle.mv_repository.proofs.UploadedLemmas.{uploaded-found}
+use Rattle.std.proofs.lemmas.Map.Views.{lookup-from_Contains}
 
--- the slots of the packs on a shelf that are counted, each under its serial number
-abbrev keyed_counted : Counted → ShelfTable → List (List ℕ × Slot)
-keyed_counted counted shelf = filter (λ slot. is_counted counted (kept_by shelf.tracks (Some slot.1))) shelf.slots
-
--- the packs that are counted, shelf by shelf
-abbrev packs_counted : Counted → List (List ℕ × ShelfTable) → List PackKey
-packs_counted counted shelves = flat_map (λ shelf. map (pack_key shelf.0) (keys_of (keyed_counted counted shelf.1))) shelves
-
--- how many these are, by what is kept on the shelves
+-- how many packs are counted, by what is kept on the shelves
 abbrev pub slots_in : Counted → List (List ℕ × ShelfParts) → ℕ
 slots_in counted [] = 0
 slots_in counted (shelf ∷ rest) = length (slots_counted counted shelf.1) + slots_in counted rest
 
--- the shelves as a log means them, and that of a product
-abbrev tables_by : List LogEntry → List (List ℕ × ShelfParts) → List (List ℕ × ShelfTable)
-tables_by log shelves = map (λ shelf. (shelf.0, shelf_by log shelf.1)) shelves
-
-abbrev table_of : List ℕ → List (List ℕ × ShelfTable) → ShelfTable
-table_of gtin shelves = unwrap_or (lookup (bytes_eq gtin) shelves) (shelf_by [] no_shelf)
-
 pack-equiv : IsEquivalence is_same_pack
 pack-equiv = search (rules, pack-sym)
 
--- the blocks don't matter
-counted-bare : (counted : Counted) (k : Kept) → is_counted counted k ≡ is_counted counted (bare k)
-counted-bare counted k = grind (arith, nat_tests)
+module _ {K X : Type 0} where
+  -- a key that differs from all of these is not among them
+  absent : (test : K → Bool) (es : List (K × X)) → AllByRecursion (λ y. test y ≡ false) (keys_of es) → lookup test es ≡ None
+  absent test [] h = refl
+  absent test (e ∷ es) h = grind (arith, nat_tests, absent test es h.1)
 
-or_last : (b c : Bool) → c ≡ true → (b || c) ≡ true
-or_last b c e = grind (arith, nat_tests)
+  lookup-append : (test : K → Bool) (es fs : List (K × X)) → lookup test (es ++ fs) ≡ option_or (lookup test es) (lookup test fs)
+  lookup-append test [] fs = refl
+  lookup-append test (e ∷ es) fs = grind (arith, nat_tests, lookup-append test es fs)
 
--- no key but the first of distinct ones is equal to it
-absent : {X : Type 0} (key : List ℕ) (es : List (List ℕ × X)) → AllByRecursion (λ y. bytes_eq key y ≡ false) (keys_of es) → lookup (bytes_eq key) es ≡ None
-absent key [] h = refl
-absent key (e ∷ es) h = ap (λ b. cond b (Some e.1) (lookup (bytes_eq key) es)) h.0 ∙ absent key es h.1
-
-all-append : {K : Type 0} → (P : K → Type 0) (xs ys : List K) → AllByRecursion P xs → AllByRecursion P ys → AllByRecursion P (xs ++ ys)
-all-append P xs ys h1 h2 = grind (arith, common_steps)
-
--- a key that is in no list is equal to none of it
-apart : (x : PackKey) (ys : List PackKey) → is_member is_same_pack ys x ≡ false → AllByRecursion (λ y. is_same_pack x y ≡ false) ys
-apart x [] m = tt
-apart x (y ∷ ys) m = grind (arith, nat_tests, apart x ys)
-
--- keys of two lists of which no two are equal
-distinct-append : (xs ys : List PackKey) → IsDistinct is_same_pack xs → IsDistinct is_same_pack ys → AllByRecursion (λ x. is_member is_same_pack ys x ≡ false) xs → IsDistinct is_same_pack (xs ++ ys)
-distinct-append [] ys d e h = e
-distinct-append (x ∷ xs) ys d e h = grind (arith, nat_tests, distinct-append xs ys (IsDistinct-tail is_same_pack x xs d) e h.1, IsDistinct-cons, IsDistinct-head, all-append, apart x ys h.0)
-
--- the packs of one product with distinct serial numbers
-distinct-product : (gtin : List ℕ) (serials : List (List ℕ)) → IsDistinct bytes_eq serials → IsDistinct is_same_pack (map (pack_key gtin) serials)
+distinct-append : (es fs : List (PackKey × Kept)) → IsDistinct is_same_pack (keys_of es) → IsDistinct is_same_pack (keys_of fs)
+    → ((q : PackKey) → is_some (lookup (is_same_pack q) es) ≡ true → lookup (is_same_pack q) fs ≡ None) → IsDistinct is_same_pack (keys_of (es ++ fs))
 unfolding IsDistinct
-distinct-product gtin [] d = tt
-distinct-product gtin (s ∷ rest) d =
-    IsDistinct-cons is_same_pack (pack_key gtin s) (map (pack_key gtin) rest) (apart_keys rest (IsDistinct-head bytes_eq s rest d))
-    (distinct-product gtin rest (IsDistinct-tail bytes_eq s rest d))
-  where
-    apart_keys : (ys : List (List ℕ)) → AllByRecursion (λ y. bytes_eq s y ≡ false) ys → AllByRecursion (λ p. is_same_pack (pack_key gtin s) p ≡ false) (map (pack_key gtin) ys)
-    apart_keys [] h = tt
-    apart_keys (y ∷ ys) h = grind (arith, nat_tests, apart_keys ys h.1)
+distinct-append [] fs d e h = e
+distinct-append (one ∷ es) fs d e h =
+    let own = absent (is_same_pack one.0) es d.0 in
+    let rest = distinct-append es fs d.1 e (λ q m. h q (grind (arith, nat_tests))) in
+    (absent_from_lookup (is_same_pack one.0) (es ++ fs) (grind (arith, nat_tests, h one.0, lookup-append, own, pack-self)), rest)
 
-in-product : (gtin : List ℕ) (serials : List (List ℕ)) (q : PackKey) → is_member is_same_pack (map (pack_key gtin) serials) q ≡ (bytes_eq q.gtin gtin && is_member bytes_eq serials q.serial)
-in-product gtin [] q = grind (arith, nat_tests)
-in-product gtin (s ∷ rest) q = grind (arith, nat_tests, in-product gtin rest q)
+module _ (log : List LogEntry) where
+  -- the packs on a shelf, and on all, each with what is kept of it
+  abbrev packs_of : List ℕ → ShelfParts → List Slot → List (PackKey × Kept)
+  packs_of gtin parts slots = map (λ slot. (pack_key gtin (serial_of log parts.slots.table.names slot), kept_by parts.tracks (Some slot))) slots
 
--- no serial number stands twice on a shelf
-abbrev IsKeyed : ShelfTable → Type 0
-IsKeyed shelf = IsDistinct bytes_eq (keys_of shelf.slots)
+  abbrev packs_in : List (List ℕ × ShelfParts) → List (PackKey × Kept)
+  packs_in shelves = flat_map (λ shelf. packs_of shelf.0 shelf.1 shelf.1.slots.table.slots) shelves
 
-module _ (counted : Counted) where
-  on-shelf : (shelf : ShelfTable) → IsKeyed shelf → (serial : List ℕ) → is_member bytes_eq (keys_of (keyed_counted counted shelf)) serial ≡ is_counted counted (kept_in shelf serial)
-  on-shelf shelf keyed serial =
-      sym (is_some-lookup (bytes_eq serial) (filter (λ slot. test slot.1) shelf.slots))
-      ∙ ap is_some (lookup-filter-values nat_list_eq_equiv test serial shelf.slots keyed) ∙ by (lookup (bytes_eq serial) shelf.slots)
-    where
-      test : Slot → Bool
-      test slot = is_counted counted (kept_by shelf.tracks (Some slot))
+  -- these slots of a shelf by their serial numbers
+  abbrev keyed_on : ShelfParts → List Slot → List (List ℕ × Slot)
+  keyed_on parts slots = keyed log parts.slots.table.names slots
 
-      by : (o : Option Slot) → is_some (option_filter test o) ≡ is_counted counted (kept_by shelf.tracks o)
-      by o = grind (arith, nat_tests)
+  shelf-found : (gtin : List ℕ) (parts : ShelfParts) (slots : List Slot) (q : PackKey) → lookup (is_same_pack q) (packs_of gtin parts slots)
+      ≡ cond (bytes_eq q.gtin gtin) (option_map (λ slot. kept_by parts.tracks (Some slot)) (lookup (bytes_eq q.serial) (keyed_on parts slots))) None
+  shelf-found gtin parts [] q = grind (arith, nat_tests)
+  shelf-found gtin parts (slot ∷ slots) q = grind (arith, nat_tests, shelf-found gtin parts slots q)
 
-  -- a pack on no shelf is not counted
-  off-shelves : (gtin serial : List ℕ) (shelves : List (List ℕ × ShelfTable)) → AllByRecursion (λ y. bytes_eq gtin y ≡ false) (keys_of shelves)
-      → is_counted counted (kept_in (table_of gtin shelves) serial) ≡ false
-  off-shelves gtin serial shelves h = grind (arith, nat_tests, absent)
-
-  in-shelves : (shelves : List (List ℕ × ShelfTable)) → IsDistinct bytes_eq (keys_of shelves) → AllByRecursion (λ shelf. IsKeyed shelf.1) shelves → (q : PackKey)
-      → is_member is_same_pack (packs_counted counted shelves) q ≡ is_counted counted (kept_in (table_of q.gtin shelves) q.serial)
-  in-shelves [] d keyed q = grind (arith, nat_tests)
-  in-shelves (s ∷ rest) d keyed q =
-      list_any-append (is_same_pack q) (map (pack_key s.0) (keys_of (keyed_counted counted s.1))) (packs_counted counted rest)
-      ∙ (λ i. in-product s.0 (keys_of (keyed_counted counted s.1)) q i || in-shelves rest (IsDistinct-tail bytes_eq s.0 (keys_of rest) d) keyed.1 q i)
-      ∙ by (bytes_eq q.gtin s.0) refl
-    where
-      by : (b : Bool) → bytes_eq q.gtin s.0 ≡ b
-          → ((b && is_member bytes_eq (keys_of (keyed_counted counted s.1)) q.serial) || is_counted counted (kept_in (table_of q.gtin rest) q.serial))
-          ≡ is_counted counted (kept_in (unwrap_or (cond b (Some s.1) (lookup (bytes_eq q.gtin) rest)) (shelf_by [] no_shelf)) q.serial)
-      by false e = refl
-      by true e = search (rules, same_text q.gtin s.0 (sym e), on-shelf, off-shelves, or-false, IsDistinct-head)
-
-  in-distinct : (shelves : List (List ℕ × ShelfTable)) → IsDistinct bytes_eq (keys_of shelves) → AllByRecursion (λ shelf. IsKeyed shelf.1) shelves → IsDistinct is_same_pack (packs_counted counted shelves)
+  shelf-distinct : (gtin : List ℕ) (parts : ShelfParts) (slots : List Slot) → IsDistinct bytes_eq (keys_of (keyed_on parts slots))
+      → IsDistinct is_same_pack (keys_of (packs_of gtin parts slots))
   unfolding IsDistinct
-  in-distinct [] d keyed = tt
-  in-distinct (s ∷ rest) d keyed =
-      distinct-append (map (pack_key s.0) (keys_of (keyed_counted counted s.1))) (packs_counted counted rest)
-      (distinct-product s.0 (keys_of (keyed_counted counted s.1)) (IsDistinct-keys_filter bytes_eq (λ slot. is_counted counted (kept_by s.1.tracks (Some slot.1))) s.1.slots keyed.0))
-      (in-distinct rest (IsDistinct-tail bytes_eq s.0 (keys_of rest) d) keyed.1) (elsewhere (keys_of (keyed_counted counted s.1)))
-    where
-      elsewhere : (serials : List (List ℕ)) → AllByRecursion (λ x. is_member is_same_pack (packs_counted counted rest) x ≡ false) (map (pack_key s.0) serials)
-      elsewhere [] = tt
-      elsewhere (one ∷ serials) = grind (arith, nat_tests, elsewhere serials, IsDistinct-tail, in-shelves, off-shelves)
+  shelf-distinct gtin parts [] d = tt
+  shelf-distinct gtin parts (slot ∷ slots) d =
+      let serial = serial_of log parts.slots.table.names slot in
+      let none = absent (bytes_eq serial) (keyed_on parts slots) d.0 in
+      let away = absent_from_lookup (is_same_pack (pack_key gtin serial)) (packs_of gtin parts slots) (grind (arith, nat_tests, none, shelf-found)) in
+      (away, shelf-distinct gtin parts slots d.1)
 
-  -- as many slots are counted as packs
-  counted-slots : (log : List LogEntry) (parts : ShelfParts) (slots : List Slot)
-      → length (filter (λ slot. is_counted counted (kept_by parts.tracks (Some slot.1))) (keyed log parts.slots.table.names slots)) ≡ length (filter (λ slot. is_counted counted (kept_by parts.tracks (Some slot))) slots)
-  counted-slots log parts [] = refl
-  counted-slots log parts (slot ∷ slots) = grind (arith, nat_tests, counted-slots log parts slots)
+  -- a product with no shelf has no pack
+  elsewhere : (shelves : List (List ℕ × ShelfParts)) (q : PackKey) → lookup (bytes_eq q.gtin) shelves ≡ None
+      → lookup (is_same_pack q) (packs_in shelves) ≡ None
+  elsewhere [] q e = refl
+  elsewhere (s ∷ rest) q e = grind (arith, nat_tests, elsewhere rest q, lookup-append, shelf-found)
 
-  counted-in : (log : List LogEntry) (shelves : List (List ℕ × ShelfParts)) → length (packs_counted counted (tables_by log shelves)) ≡ slots_in counted shelves
-  counted-in log [] = refl
-  counted-in log (s ∷ rest) =
-      length-append (map (pack_key s.0) (keys_of (keyed_counted counted (shelf_by log s.1)))) (packs_counted counted (tables_by log rest))
-      ∙ (λ i. (length-map (keys_of (keyed_counted counted (shelf_by log s.1))) (pack_key s.0) ∙ length-keys_of (keyed_counted counted (shelf_by log s.1)) ∙ counted-slots log s.1 s.1.slots.table.slots) i + counted-in log rest i)
+  later : (s : List ℕ × ShelfParts) (rest : List (List ℕ × ShelfParts)) → IsDistinct bytes_eq (s.0 ∷ keys_of rest) → (gtin : List ℕ)
+      → bytes_eq gtin s.0 ≡ true → lookup (bytes_eq gtin) rest ≡ None
+  later s rest d gtin e =
+      let none = absent (bytes_eq s.0) rest (IsDistinct-head bytes_eq s.0 (keys_of rest) d) in
+      subst (λ (one : List ℕ). lookup (bytes_eq one) rest ≡ None) (sym (same_text gtin s.0 (sym e))) none
 
-  module _ (log : List LogEntry) where
-    keys-by : (shelves : List (List ℕ × ShelfParts)) → keys_of (tables_by log shelves) ≡ keys_of shelves
-    keys-by [] = refl
-    keys-by (s ∷ rest) = ap (λ keys. s.0 ∷ keys) (keys-by rest)
+  packs-found : (shelves : List (List ℕ × ShelfParts)) → IsDistinct bytes_eq (keys_of shelves) → (q : PackKey)
+      → unwrap_or (lookup (is_same_pack q) (packs_in shelves)) nothing_kept ≡ kept_in (shelf_by log (shelf_of q.gtin shelves)) q.serial
+  packs-found [] d q = refl
+  packs-found (s ∷ rest) d q =
+      let behind = packs-found rest (IsDistinct-tail bytes_eq s.0 (keys_of rest) d) q in
+      grind (arith, nat_tests, behind, elsewhere rest q, later s rest d q.gtin, lookup-append, shelf-found)
 
-    found-by : (gtin : List ℕ) (shelves : List (List ℕ × ShelfParts)) → table_of gtin (tables_by log shelves) ≡ shelf_by log (shelf_of gtin shelves)
-    found-by gtin [] = refl
-    found-by gtin (s ∷ rest) = by (bytes_eq gtin s.0) (found-by gtin rest)
-      where
-        by : (b : Bool) → table_of gtin (tables_by log rest) ≡ shelf_by log (shelf_of gtin rest) → unwrap_or (cond b (Some (shelf_by log s.1)) (lookup (bytes_eq gtin) (tables_by log rest))) (shelf_by [] no_shelf) ≡ shelf_by log (unwrap_or (cond b (Some s.1) (lookup (bytes_eq gtin) rest)) no_shelf)
-        by true e = refl
-        by false e = e
+  packs-distinct : (shelves : List (List ℕ × ShelfParts)) → IsDistinct bytes_eq (keys_of shelves)
+      → AllByRecursion (λ shelf. AreSlots log shelf.1.slots.table) shelves → IsDistinct is_same_pack (keys_of (packs_in shelves))
+  unfolding IsDistinct
+  packs-distinct [] d are = tt
+  packs-distinct (s ∷ rest) d are =
+      let own = shelf-distinct s.0 s.1 s.1.slots.table.slots are.0.distinct in
+      distinct-append (packs_of s.0 s.1 s.1.slots.table.slots) (packs_in rest) own (packs-distinct rest d.1 are.1)
+      (λ q m. elsewhere rest q (later s rest d q.gtin (grind (arith, nat_tests, shelf-found))))
 
-    all-keyed : (shelves : List (List ℕ × ShelfParts)) → IsDistinct bytes_eq (keys_of shelves)
-        → ((gtin : List ℕ) (parts : ShelfParts) → lookup (bytes_eq gtin) shelves ≡ Some parts → IsKeyed (shelf_by log parts)) → AllByRecursion (λ shelf. IsKeyed shelf.1) (tables_by log shelves)
-    all-keyed [] d h = tt
-    all-keyed (s ∷ rest) d h = (
-      h s.0 s.1 (ap (λ b. cond b (Some s.1) (lookup (bytes_eq s.0) rest)) (text-self s.0)),
-      all-keyed rest (IsDistinct-tail bytes_eq s.0 (keys_of rest) d) (λ gtin parts e. h gtin parts (by gtin parts e (bytes_eq gtin s.0) refl)),
-    )
-      where
-        by : (gtin : List ℕ) (parts : ShelfParts) → lookup (bytes_eq gtin) rest ≡ Some parts → (b : Bool) → bytes_eq gtin s.0 ≡ b → cond b (Some s.1) (lookup (bytes_eq gtin) rest) ≡ Some parts
-        by gtin parts e false n = e
-        by gtin parts e true n =
-            let none : lookup (bytes_eq gtin) rest ≡ None = subst (λ (one : List ℕ). lookup (bytes_eq one) rest ≡ None) (sym (same_text gtin s.0 (sym n))) (absent s.0 rest (IsDistinct-head bytes_eq s.0 (keys_of rest) d)) in
-            absurd (true≢false (ap is_some (sym e ∙ none)))
+  module _ (counted : Counted) where
+    -- those of these packs that are counted: as many as slots are
+    abbrev shown : List (PackKey × Kept) → List (PackKey × Kept)
+    shown packs = filter (λ pack. is_counted counted pack.1) packs
 
-  -- the packs that are counted shelf by shelf are those that a log has
-  all-counted : (log : List LogEntry) (tables : Tables) → AreTablesOf log tables → IsDistinct bytes_eq (keys_of tables.shelves.entries)
-      → slots_in counted tables.shelves.entries ≡ distinct_count is_same_pack (filter (λ pack. is_counted counted (track_of pack log)) (uploaded_packs log))
-  all-counted log tables are d =
-      sym (counted-in log tables.shelves.entries)
-      ∙ length-from_keys pack-equiv (packs_counted counted shelves) (filter test (uploaded_packs log)) (in-distinct shelves apart keyed)
-      (λ q. in-shelves shelves apart keyed q ∙ counted-bare counted (kept_in (table_of q.gtin shelves) q.serial)
-      ∙ ap (λ (shelf : ShelfTable). is_counted counted (bare (kept_in shelf q.serial))) (found-by log q.gtin tables.shelves.entries)
-      ∙ ap (is_counted counted) ((are.shelves q.gtin).shelf.packs q.serial).kept.bare
-      ∙ sym (is_member-filter pack-equiv test q (λ y e. ap test (same_pack q y e)) (uploaded_packs log) ∙ ap (λ b. b && test q) (sym (uploaded-found log q)) ∙ there q (test q) refl))
-    where
-      shelves : List (List ℕ × ShelfTable)
-      shelves = tables_by log tables.shelves.entries
+    counted-of : (gtin : List ℕ) (parts : ShelfParts) (slots : List Slot) → length (shown (packs_of gtin parts slots))
+        ≡ length (filter (λ slot. is_counted counted (kept_by parts.tracks (Some slot))) slots)
+    counted-of gtin parts [] = refl
+    counted-of gtin parts (slot ∷ slots) = grind (arith, nat_tests, counted-of gtin parts slots)
 
-      apart : IsDistinct bytes_eq (keys_of shelves)
-      apart = subst (IsDistinct bytes_eq) (sym (keys-by log tables.shelves.entries)) d
+    counted-in : (shelves : List (List ℕ × ShelfParts)) → length (shown (packs_in shelves)) ≡ slots_in counted shelves
+    counted-in [] = refl
+    counted-in (s ∷ rest) = grind (arith, nat_tests, counted-in rest, counted-of, filter-append, length-append)
 
-      keyed : AllByRecursion (λ shelf. IsKeyed shelf.1) shelves
-      keyed = all-keyed log tables.shelves.entries d (λ gtin parts e.
-          subst (λ (one : ShelfParts). IsKeyed (shelf_by log one)) (ap (λ (o : Option ShelfParts). unwrap_or o no_shelf) e) (are.shelves gtin).slots.distinct)
+    -- a pack is counted where a log has it and what it keeps of it is counted
+    same-counted : (tables : Tables) (q : PackKey) (o : Option Kept) → AreTablesOf log tables
+        → unwrap_or o nothing_kept ≡ kept_in (shelf_by log (shelf_of q.gtin tables.shelves.entries)) q.serial
+        → is_some (option_filter (is_counted counted) o) ≡ (is_member is_same_pack (uploaded_packs log) q && is_counted counted (track_of q log))
+    same-counted tables q o are e =
+        let kept = ((are.shelves q.gtin).shelf.packs q.serial).kept.bare in
+        grind (arith, nat_tests, kept, uploaded-found log q)
 
-      test : PackKey → Bool
-      test pack = is_counted counted (track_of pack log)
+    -- the packs that are counted shelf by shelf are those that a log has
+    all-counted : (tables : Tables) → AreTablesOf log tables → IsDistinct bytes_eq (keys_of tables.shelves.entries)
+        → slots_in counted tables.shelves.entries
+        ≡ distinct_count is_same_pack (filter (λ pack. is_counted counted (track_of pack log)) (uploaded_packs log))
+    all-counted tables are d =
+        let shelves = tables.shelves.entries in
+        let test : PackKey → Bool = λ pack. is_counted counted (track_of pack log) in
+        let distinct = packs-distinct shelves d (recursion_from_All (λ shelf. AreSlots log shelf.1.slots.table) shelves (λ k s l.
+        let own = get_or shelves k s in
+        let there = lookup-from_Contains nat_list_eq_equiv own.0 own.1 shelves d (All-contains_itself shelves k s l) in
+        subst (λ (o : Option ShelfParts). AreSlots log (unwrap_or o no_shelf).slots.table) there (are.shelves own.0).slots)) in
+        let same : (q : PackKey) → is_member is_same_pack (keys_of (shown (packs_in shelves))) q ≡ is_member is_same_pack (filter test (uploaded_packs log)) q =
+        λ q. sym (is_some-lookup (is_same_pack q) (shown (packs_in shelves)))
+        ∙ ap is_some (lookup-filter-values pack-equiv (is_counted counted) q (packs_in shelves) distinct)
+        ∙ same-counted tables q (lookup (is_same_pack q) (packs_in shelves)) are (packs-found shelves d q)
+        ∙ sym (is_member-filter pack-equiv test q (λ y e. ap test (same_pack q y e)) (uploaded_packs log)) in
+        let once = IsDistinct-keys_filter is_same_pack (λ pack. is_counted counted pack.1) (packs_in shelves) distinct in
+        sym (counted-in shelves) ∙ sym (length-keys_of (shown (packs_in shelves)))
+        ∙ length-from_keys pack-equiv (keys_of (shown (packs_in shelves))) (filter test (uploaded_packs log)) once same
 
-      there : (q : PackKey) (b : Bool) → test q ≡ b → (is_some (track_of q log).birth && b) ≡ b
-      there q b e = grind (arith, nat_tests)
-
-  -- and no more than 64 bits hold
-  pub counted-whole : (log : List LogEntry) (tables : Tables) (count : ℕ) → AreTablesOf log tables → IsDistinct bytes_eq (keys_of tables.shelves.entries)
-      → tables.named < 2 ^ 64 → count ≡ min (slots_in counted tables.shelves.entries) (2 ^ 64 - 1)
-      → count ≡ distinct_count is_same_pack (filter (λ pack. is_counted counted (track_of pack log)) (uploaded_packs log))
-  counted-whole log tables count are d fits e = grind (arith, nat_tests, all-counted, distinct_count-le, length-filter_both (λ pack. is_counted counted (track_of pack log)) (λ pack. not (is_counted counted (track_of pack log))) (λ pack. refl) (uploaded_packs log))
+    -- and no more than 64 bits hold
+    pub counted-whole : (tables : Tables) (count : ℕ) → AreTablesOf log tables → IsDistinct bytes_eq (keys_of tables.shelves.entries)
+        → tables.named < 2 ^ 64 → count ≡ min (slots_in counted tables.shelves.entries) (2 ^ 64 - 1)
+        → count ≡ distinct_count is_same_pack (filter (λ pack. is_counted counted (track_of pack log)) (uploaded_packs log))
+    counted-whole tables count are d fits e =
+        grind (arith, nat_tests, all-counted, count_by-le-length, distinct_count-le, length-filter)
 
 -- the packs that are held are those that the log names
-pub held-all : (log : List LogEntry) → distinct_count is_same_pack (filter (λ pack. is_some (track_of pack log).birth) (uploaded_packs log)) ≡ distinct_count is_same_pack (uploaded_packs log)
+pub held-all : (log : List LogEntry)
+    → distinct_count is_same_pack (filter (λ pack. is_some (track_of pack log).birth) (uploaded_packs log)) ≡ distinct_count is_same_pack (uploaded_packs log)
 held-all log = ap (distinct_count is_same_pack) (all-pass (uploaded_packs log) (λ q m. uploaded-found log q ∙ m))
   where
-    all-pass : (xs : List PackKey) → ((q : PackKey) → is_member is_same_pack xs q ≡ true → is_some (track_of q log).birth ≡ true) → filter (λ pack. is_some (track_of pack log).birth) xs ≡ xs
+    all-pass : (xs : List PackKey) → ((q : PackKey) → is_member is_same_pack xs q ≡ true → is_some (track_of q log).birth ≡ true)
+        → filter (λ pack. is_some (track_of pack log).birth) xs ≡ xs
     all-pass [] h = refl
-    all-pass (x ∷ xs) h = grind (arith, nat_tests, all-pass xs (λ q m. h q (or_last (is_same_pack q x) (is_member is_same_pack xs q) m)), pack-self)
+    all-pass (x ∷ xs) h = grind (arith, nat_tests, all-pass xs (λ q m. h q (grind (arith, nat_tests))), pack-self)

@@ -1,8 +1,7 @@
 -- What the tables are after one more entry, by its form.
-use Rattle.mv_repository.proofs.Words.{◌≡◌, ◌+◌, ℕ, List, length, get_or, take, true, Option, None, Some, Result, OnOk, OnErr, [], Item, Message, Master, Upload, Status, Recall, Withdraw, Product, Standing, CivilDate, BatchKey, PackKey, LogEntry, uploaded_in, uploaded_packs, is_master, AreMastersOf, ordered, AreShelfOf, ShelfParts, shelf_of, Stops, first_stops, no_entry, message_in, AreStopsOf, AreTablesOf, Tables, arith, nat_tests}
-use Rattle.mv_repository.proofs.PacksLemmas.{none-named}
+use Rattle.mv_repository.proofs.Words.{◌≡◌, ◌+◌, ℕ, List, bytes_eq, false, length, subst, sym, get_or, take, true, Option, None, Some, Result, OnOk, OnErr, [], Item, Message, Master, Upload, Status, Recall, Withdraw, Product, Standing, CivilDate, BatchKey, PackKey, LogEntry, uploaded_in, uploaded_packs, is_master, AreMastersOf, ordered, AreShelfOf, ShelfParts, shelf_of, Stops, first_stops, no_entry, message_in, AreStopsOf, AreTablesOf, Tables, arith, nat_tests, common_steps}
 use Rattle.mv_repository.proofs.ProductLemmas.{masters-noted}
-use Rattle.mv_repository.proofs.SerialLemmas.{serials-at, shelf-kept}
+use Rattle.mv_repository.proofs.SerialLemmas.{AreSamePacks, IsShelved, serials-at, shelf-kept, shelves-follow}
 use Rattle.mv_repository.proofs.StopLemmas.{NoMaster}
 use Rattle.mv_repository.proofs.TableLemmas.{NoPack, StopsNone, at-newest, first-same, log-split, stops-stay}
 use Rattle.mv_repository.proofs.UploadLemmas.{life-same}
@@ -58,7 +57,18 @@ module _ (whole : List LogEntry) (place : ℕ) (l : length whole ≡ place + 1) 
       shelf-kept whole place gtin (shelf_of gtin shelves) ((λ serial. grind (arith, nat_tests, life-same, none.0)), serials-at whole place gtin [] l (none.2 gtin)) (are gtin)
 
   pub named-at : (named : ℕ) → uploaded_in entry.item ≡ [] → named ≡ length (uploaded_packs log) → named ≡ length (uploaded_packs whole)
-  named-at named none is = none-named log entry named none is whole (log-split whole place l)
+  named-at named none is = at-newest whole place l (λ w n. named ≡ length (uploaded_packs w)) (grind (arith, nat_tests, common_steps))
+
+  -- the tables, where the entry is no master and the shelf of one product is written
+  pub tables-follow : (old new : Tables) (gtin : List ℕ) (shelf : ShelfParts) → NoMaster entry.item → AreTablesOf log old → new.masters.entries ≡ old.masters.entries → AreStopsOf whole new.stops
+      → IsShelved old.shelves.entries new.shelves.entries gtin shelf → AreShelfOf whole gtin shelf → ((other : List ℕ) → bytes_eq gtin other ≡ false → AreSamePacks whole log other)
+      → new.named ≡ length (uploaded_packs whole) → AreTablesOf whole new
+  tables-follow old new gtin shelf none are same stops looks now away named = record {
+    masters = subst (AreMastersOf whole) (sym same) (masters-at old.masters.entries none are.masters);
+    stops = stops;
+    shelves = shelves-follow old.shelves.entries new.shelves.entries gtin shelf looks whole log are.shelves now (λ other e parts. shelf-kept whole place other parts (away other e));
+    named = named;
+  }
 
   pub tables-noted : (tables : Tables) → IsNoted entry.item → AreTablesOf log tables → AreTablesOf whole tables
   tables-noted tables noted are = grind (arith, nat_tests, masters-at tables.masters.entries noted.2 are.masters, named-at, shelves-at tables.shelves.entries noted.0 (same-at noted.1) are.shelves, stops-at)

@@ -1,13 +1,9 @@
 -- Lemmas on what a log says of its party's queries.
-use Rattle.mv_repository.proofs.Words.{◌≡◌, ◌∷◌, ◌++◌, ◌&&◌, ◌||◌, ◌==◌, arith, nat_tests, ℕ, List, [], ◌∙◌, ap, Bool, false, cond, Option, Some, None, is_some, length, list_any, option_or, option_map_or, or-false, list_any-append, Found, Message, Item, Carried, LogEntry, Inquiries, Inquiry, asked_parties, finding_in, has_answered, found_active, found_explained, joint_verdict, sym, query_of, inquiry_after, lookup, nat_eq, no_inquiry, unwrap_or, has_reply, inquiry_of, IsInquiriesOf, query_reach, verdict_when, not, filter, Decided}
+use Rattle.mv_repository.proofs.Words.{◌≡◌, ◌∷◌, ◌++◌, ◌&&◌, ◌||◌, ◌==◌, arith, nat_tests, ℕ, List, [], ◌∙◌, ap, Bool, false, cond, Option, Some, None, is_some, length, list_any, option_or, option_map_or, or-false, list_any-append, Message, Item, Carried, LogEntry, Inquiries, Inquiry, asked_parties, finding_in, has_answered, found_active, found_explained, joint_verdict, sym, query_of, inquiry_after, lookup, nat_eq, no_inquiry, unwrap_or, has_reply, inquiry_of, IsInquiriesOf, query_reach, verdict_when, not, filter, Decided}
 
 -- what is kept of a query, if only nothing
 abbrev pub inquiry_in : Inquiries → ℕ → Inquiry
 inquiry_in known q = unwrap_or (lookup (nat_eq q) known.inquiries.entries) no_inquiry
-
--- there is a finding, and it is so
-abbrev is_found_so : (Found → Bool) → Option Found → Bool
-is_found_so test finding = option_map_or test finding false
 
 -- a log with one more entry
 abbrev with_entry : List LogEntry → ℕ → Item → List LogEntry
@@ -27,32 +23,23 @@ any-more : (test : LogEntry → Bool) (log : List LogEntry) (entry : LogEntry) �
 any-more test log entry = list_any-append test log (entry ∷ []) ∙ ap (λ b. list_any test log || b) (or-false (test entry))
 
 -- what a log with one more entry says of a query
-abbrev more_known : ℕ → ℕ → Item → ℕ → Inquiry → Inquiry
-more_known party sender item q inquiry = record {
-  asked = option_or inquiry.asked (asked_in party sender item q);
-  active = inquiry.active || is_found_so found_active (finding_in party q item);
-  explained = inquiry.explained || is_found_so found_explained (finding_in party q item);
+inquiry-more : (party : ℕ) (log : List LogEntry) (sender : ℕ) (item : Item) (q : ℕ) → inquiry_of party (with_entry log sender item) q ≡ record {
+  asked = option_or (inquiry_of party log q).asked (asked_in party sender item q);
+  active = (inquiry_of party log q).active || option_map_or found_active (finding_in party q item) false;
+  explained = (inquiry_of party log q).explained || option_map_or found_explained (finding_in party q item) false;
 }
-
-inquiry-more : (party : ℕ) (log : List LogEntry) (sender : ℕ) (item : Item) (q : ℕ)
-    → inquiry_of party (with_entry log sender item) q ≡ more_known party sender item q (inquiry_of party log q)
 inquiry-more party log sender item q = grind (arith, nat_tests, any-more, asked-more)
 
 replies-more : (party : ℕ) (log : List LogEntry) (sender : ℕ) (item : Item) (q other : ℕ)
     → has_answered party (with_entry log sender item) q other ≡ (has_answered party log q other || ((sender == other) && is_some (finding_in party q item)))
 replies-more party log sender item q other = grind (arith, nat_tests, any-more)
 
--- an item tells nothing of a query
-abbrev pub TellsNothing : ℕ → ℕ → Item → ℕ → Type 0
-TellsNothing party sender item q = (asked_in party sender item q ≡ None) × (finding_in party q item ≡ None)
-
-pub tells_nothing : (party sender : ℕ) (item : Item) → query_of party sender item ≡ None → (q : ℕ) → TellsNothing party sender item q
-tells_nothing party sender item e q = grind (arith, nat_tests)
-
 -- an entry that tells nothing of any query leaves what is known
-pub known_stays : (party : ℕ) (log : List LogEntry) (sender : ℕ) (item : Item) (known : Inquiries) → ((q : ℕ) → TellsNothing party sender item q)
+pub known_stays : (party : ℕ) (log : List LogEntry) (sender : ℕ) (item : Item) (known : Inquiries) → query_of party sender item ≡ None
     → IsInquiriesOf party log known → IsInquiriesOf party (with_entry log sender item) known
-known_stays party log sender item known nothing is = grind (arith, nat_tests, inquiry-more, or-false, replies-more)
+known_stays party log sender item known none is =
+    let nothing : (q : ℕ) → (asked_in party sender item q ≡ None) × (finding_in party q item ≡ None) = λ q. grind (arith, nat_tests) in
+    grind (arith, nat_tests, inquiry-more, or-false, replies-more)
 
 -- an item that tells of a query: its receipt, and an answer to it
 pub receipt_noted : (party : ℕ) (log : List LogEntry) (sender : ℕ) (item : Item) (asked : ℕ) (known known' : Inquiries)

@@ -1,14 +1,9 @@
 -- What is kept of all packs, by what is kept of those of each product.
-use Rattle.mv_repository.proofs.Words.{◌≡◌, ◌+◌, ◌∷◌, ◌&&◌, bytes_eq, ℕ, List, [], length, get_or, take, sym, ◌∙◌, ap, arith, cond, true, false, Option, lookup, unwrap_or, Item, pack_key, PackKey, LogEntry, uploaded_in, uploaded_packs, ShelfParts, kept_in, shelf_by, AreShelfOf, IsUploadOf, no_shelf, shelf_of, no_entry, is_upload_of, is_status_of, life_of, track_of, bare, nat_tests, common_steps}
-use Rattle.mv_repository.proofs.TableLemmas.{longer, log-split}
+use Rattle.mv_repository.proofs.Words.{◌≡◌, ◌+◌, ◌∷◌, ◌&&◌, bytes_eq, ℕ, List, [], length, get_or, take, ◌∙◌, ap, arith, cond, true, false, Item, pack_key, PackKey, LogEntry, IsUploadOf, no_entry, is_upload_of, is_status_of, life_of, nat_tests}
+use Rattle.mv_repository.proofs.TableLemmas.{log-split}
 use Rattle.mv_repository.proofs.SerialLemmas.{AreSamePacks, serials-at, status-serials, upload-serials}
 use Rattle.mv_repository.proofs.TrackLemmas.{status-form}
 use Rattle.mv_repository.proofs.UploadLemmas.{upload-form, untouched}
-
--- what is kept of a pack, on the shelf of its product if it has one
-pub kept-found : (log : List LogEntry) (shelves : List (List ℕ × ShelfParts)) (pack : PackKey) (shelf : Option ShelfParts) → lookup (bytes_eq pack.gtin) shelves ≡ shelf
-    → AreShelfOf log pack.gtin (shelf_of pack.gtin shelves) → bare (kept_in (shelf_by log (unwrap_or shelf no_shelf)) pack.serial) ≡ track_of pack log
-kept-found log shelves pack shelf e of = ap (λ (o : Option ShelfParts). bare (kept_in (shelf_by log (unwrap_or o no_shelf)) pack.serial)) (sym e) ∙ (of.shelf.packs pack.serial).kept.bare
 
 -- an upload, and a status, of one product bears on no other
 pub upload-away : (whole : List LogEntry) (place : ℕ) (gtin : List ℕ) (serials : List (List ℕ)) → length whole ≡ place + 1 → IsUploadOf (get_or whole place no_entry).item gtin serials
@@ -35,8 +30,3 @@ status-away whole place pack l own other e = (
       ∙ untouched (take place whole) (get_or whole place no_entry) (pack_key other serial) only.0 (only.1 ∙ (λ i. e i && bytes_eq pack.serial serial)) form.1,
   serials-at whole place other [] l (status-serials other pack (get_or whole place no_entry).item own ∙ ap (λ b. cond b (pack.serial ∷ []) []) e),
 )
-
--- an entry that uploads nothing names no pack more
-pub none-named : (log : List LogEntry) (entry : LogEntry) (named : ℕ) → uploaded_in entry.item ≡ [] → named ≡ length (uploaded_packs log) → (whole : List LogEntry) → whole ≡ longer log entry
-    → named ≡ length (uploaded_packs whole)
-none-named log entry named none is whole e = grind (arith, nat_tests, common_steps)

@@ -1,5 +1,5 @@
 -- Lemmas on the last master of a code, and on the table that finds it.
-use Rattle.mv_repository.proofs.Words.{AreMastersOf, Ascends, Bool, IfSome, Item, List, LogEntry, Master, Message, None, Option, Placed, Product, Some, [], ap, arith, bytes_eq, cond, cond_both, cons_option, entry_at, false, filter, filter_map, get_or, is_master, last_or, length, lookup, message_in, nat_tests, no_entry, option_and_then, option_map, option_map_or, ordered, passes, place_of, product_of, product_under, put_in, refl, rules, same_text, sym, take, true, ℕ, ◌+◌, ◌∙◌, ◌∷◌, ◌≡◌}
+use Rattle.mv_repository.proofs.Words.{AreMastersOf, Ascends, Bool, IfSome, Item, List, LogEntry, Master, Message, None, Option, Placed, Product, Some, [], ap, arith, bytes_eq, cond, cond_both, entry_at, false, filter, filter_map, get_or, is_master, is_some, last_or, length, lookup, message_in, nat_tests, no_entry, option_and_then, option_map, option_map_or, ordered, passes, place_of, product_of, product_under, put_in, refl, rules, same_text, sym, take, true, ℕ, ◌+◌, ◌∙◌, ◌∷◌, ◌≡◌}
 use Rattle.mv_repository.proofs.OrderLemmas.{still-stand, passes_behind, ordered-ascends, ordered-stand, last-all}
 use Rattle.mv_repository.proofs.TableLemmas.{longer, newest, newest-stands, at-newest, filter-ascends, filter-more, filter-none, filter-stand, found-more}
 
@@ -46,27 +46,14 @@ last-some f log entry h = grind (arith, nat_tests, filter-ascends, filter-more, 
 product_is : (gtin : List ℕ) (item : Item) → product_under gtin item ≡ cond (is_master gtin item) (product_in item) None
 product_is gtin item = grind (arith, nat_tests)
 
+product_some : (gtin : List ℕ) (item : Item) → is_master gtin item ≡ true → is_some (product_in item) ≡ true
+product_some gtin item e = grind (arith, nat_tests)
+
 product_of_last : (gtin : List ℕ) (last : Option Placed) (xs : List Placed)
     → last_or (option_and_then (λ y. product_in y.entry.item) last) (filter_map (λ placed. product_under gtin placed.entry.item) xs)
     ≡ option_and_then (λ y. product_in y.entry.item) (last_or last (filter (λ placed. is_master gtin placed.entry.item) xs))
 product_of_last gtin last [] = refl
-product_of_last gtin last (y ∷ ys) =
-    ap (λ (o : Option Product). last_or known (cons_option o rest)) (product_is gtin y.entry.item) ∙ by (is_master gtin y.entry.item) refl (product_in y.entry.item) refl (λ o. product_of_last gtin o ys)
-  where
-    known : Option Product
-    known = option_and_then (λ y. product_in y.entry.item) last
-
-    rest : List Product
-    rest = filter_map (λ placed. product_under gtin placed.entry.item) ys
-
-    masters : List Placed
-    masters = filter (λ placed. is_master gtin placed.entry.item) ys
-
-    by : (b : Bool) → is_master gtin y.entry.item ≡ b → (o : Option Product) → product_in y.entry.item ≡ o
-        → ((o : Option Placed) → last_or (option_and_then (λ y. product_in y.entry.item) o) rest ≡ option_and_then (λ y. product_in y.entry.item) (last_or o masters))
-        → last_or known (cons_option (cond b o None) rest)
-        ≡ option_and_then (λ y. product_in y.entry.item) (last_or last (cond b (y ∷ masters) masters))
-    by b h o e r = grind (arith, nat_tests)
+product_of_last gtin last (y ∷ ys) = grind (arith, nat_tests, product_is gtin y.entry.item, product_some gtin y.entry.item, product_of_last gtin last ys, product_of_last gtin (Some y) ys)
 
 -- what the table finds is the last master
 pub product_found : (log : List LogEntry) (masters : List (List ℕ × ℕ)) (gtin : List ℕ) → AreMastersOf log masters → option_and_then (λ place. product_in (entry_at log place).entry.item) (lookup (bytes_eq gtin) masters) ≡ product_of log gtin
@@ -101,21 +88,17 @@ masters-more log entry gtin masters masters' own places now looks is =
 -- the same by the place of the newest entry
 module _ (whole : List LogEntry) (place : ℕ) (masters : List (List ℕ × ℕ)) (gtin : List ℕ) (l : length whole ≡ place + 1)
     (own : is_master gtin (get_or whole place no_entry).item ≡ true) (places : AreMastersOf (take place whole) masters) where
+  masters-now : (masters' : List (List ℕ × ℕ)) (now : Option ℕ) → ((other : List ℕ) → lookup (bytes_eq other) masters' ≡ cond (bytes_eq gtin other) now (lookup (bytes_eq other) masters))
+      → now ≡ cond (comes_late whole place (lookup (bytes_eq gtin) masters)) (lookup (bytes_eq gtin) masters) (Some place) → AreMastersOf whole masters'
+  masters-now masters' now looks =
+      at-newest whole place l (λ w n. now ≡ cond (comes_late w n (lookup (bytes_eq gtin) masters)) (lookup (bytes_eq gtin) masters) (Some n) → AreMastersOf w masters')
+      (masters-more (take place whole) (get_or whole place no_entry) gtin masters masters' own places now looks)
+
   -- a master that comes late leaves the table
   pub masters-late-at : comes_late whole place (lookup (bytes_eq gtin) masters) ≡ true → AreMastersOf whole masters
-  masters-late-at =
-      at-newest whole place l (λ w n. comes_late w n (lookup (bytes_eq gtin) masters) ≡ true → AreMastersOf w masters)
-      (λ late. masters-more (take place whole) (get_or whole place no_entry) gtin masters masters own places (lookup (bytes_eq gtin) masters) (λ other. by other (bytes_eq gtin other) refl)
-      (sym (ap (λ b. cond b (lookup (bytes_eq gtin) masters) (Some (length (take place whole)))) late)))
-    where
-      by : (other : List ℕ) (b : Bool) → bytes_eq gtin other ≡ b → lookup (bytes_eq other) masters ≡ cond b (lookup (bytes_eq gtin) masters) (lookup (bytes_eq other) masters)
-      by other b h1 = search rules
+  masters-late-at late = masters-now masters (lookup (bytes_eq gtin) masters) (λ other. grind (arith, nat_tests, same_text gtin other)) (sym (ap (λ b. cond b (lookup (bytes_eq gtin) masters) (Some place)) late))
 
   -- any other takes the place of its code
   pub masters-latest-at : (masters' : List (List ℕ × ℕ)) → comes_late whole place (lookup (bytes_eq gtin) masters) ≡ false
       → ((other : List ℕ) → lookup (bytes_eq other) masters' ≡ cond (bytes_eq gtin other) (Some place) (lookup (bytes_eq other) masters)) → AreMastersOf whole masters'
-  masters-latest-at masters' =
-      at-newest whole place l (λ w n. comes_late w n (lookup (bytes_eq gtin) masters) ≡ false
-      → ((other : List ℕ) → lookup (bytes_eq other) masters' ≡ cond (bytes_eq gtin other) (Some n) (lookup (bytes_eq other) masters)) → AreMastersOf w masters')
-      (λ late looks. masters-more (take place whole) (get_or whole place no_entry) gtin masters masters' own places (Some (length (take place whole))) looks
-      (sym (ap (λ b. cond b (lookup (bytes_eq gtin) masters) (Some (length (take place whole)))) late)))
+  masters-latest-at masters' late looks = masters-now masters' (Some place) looks (sym (ap (λ b. cond b (lookup (bytes_eq gtin) masters) (Some place)) late))

@@ -1,5 +1,6 @@
--- The serial numbers of a product that a log names, after one more entry.
-use Rattle.mv_repository.proofs.Words.{◌≡◌, ◌+◌, ◌∷◌, bytes_eq, ℕ, List, [], length, get_or, take, fold, sym, ◌∙◌, ap, subst, true, true≢false, cond, insert_key, Item, Carried, Upload, Status, pack_key, PackKey, LogEntry, AreShelfOf, AreSlots, ShelfParts, ShelfTable, Slot, keyed, shelf_by, IsPackOf, IsShelfOf, IsUploadOf, Life, life_of, is_status_of, no_entry, no_shelf, refl, IsDistinct, serials_in, serials_of}
+-- The serial numbers of a product that a log names, after one more entry; and what is kept of all packs, where the shelf of one product is
+-- written.
+use Rattle.mv_repository.proofs.Words.{arith, nat_tests, ◌≡◌, ◌+◌, ◌∷◌, bytes_eq, ℕ, List, [], length, get_or, take, fold, sym, ◌∙◌, ap, subst, true, true≢false, cond, insert_key, Item, Carried, Status, pack_key, PackKey, LogEntry, AreShelfOf, AreSlots, ShelfParts, ShelfTable, Slot, shelf_by, IsPackOf, IsShelfOf, IsUploadOf, Life, life_of, is_status_of, no_entry, no_shelf, refl, IsDistinct, serials_in, serials_of, ◌||◌, Bool, false, same_text, HashSet, lookup, map, lists, is_in, not, option_map, shelf_of}
 use Rattle.mv_repository.proofs.KeptLemmas.{same_pack}
 use Rattle.mv_repository.proofs.SlotLemmas.{slots-longer}
 use Rattle.mv_repository.proofs.StoppedLemmas.{once-all}
@@ -13,8 +14,7 @@ serials-at whole place gtin serials l e =
     ∙ once-all bytes_eq (λ (one : LogEntry). serials_in gtin one.item) (take place whole) (get_or whole place no_entry) serials e
 
 pub upload-serials : (other gtin : List ℕ) (serials : List (List ℕ)) (item : Item) → IsUploadOf item gtin serials → serials_in other item ≡ cond (bytes_eq gtin other) serials []
-upload-serials other gtin serials (Carried k stamp (Upload named batch expiry national packs)) u = λ i. cond (bytes_eq (u.0 i) other) (u.1 i) []
-upload-serials other gtin serials _ u = absurd u
+upload-serials other gtin serials item u = grind (arith, nat_tests)
 
 pub status-serials : (other : List ℕ) (pack : PackKey) (item : Item) → is_status_of pack item ≡ true → serials_in other item ≡ cond (bytes_eq pack.gtin other) (pack.serial ∷ []) []
 status-serials other pack (Carried k stamp (Status key to user at)) e = ap (λ (q : PackKey). cond (bytes_eq q.gtin other) (q.serial ∷ []) []) (same_pack key pack e)
@@ -40,14 +40,6 @@ no-shelf-yet gtin = record {
   shelf = record { packs = λ serial. record { kept = record { bare = refl; blocks = tt }; listed = tt }; serials = refl };
 }
 
--- what is kept with other room
-pub same-shelf : (log : List LogEntry) (gtin : List ℕ) (parts new : ShelfParts) → new.slots.table ≡ parts.slots.table → new.tracks ≡ parts.tracks → new.listing ≡ parts.listing
-    → AreShelfOf log gtin parts → AreShelfOf log gtin new
-same-shelf log gtin parts new table tracks listing of = record {
-  slots = subst (AreSlots log) (sym table) of.slots;
-  shelf = subst (IsShelfOf log gtin) (sym (λ i. record { slots = keyed log (table i).names (table i).slots; tracks = tracks i; listing = listing i })) of.shelf;
-}
-
 -- what is kept on a shelf by the front of a log, is so by all of it
 pub shelf-longer : (whole : List LogEntry) (place : ℕ) (gtin : List ℕ) (parts : ShelfParts) → AreShelfOf (take place whole) gtin parts
     → AreSlots whole parts.slots.table × IsShelfOf (take place whole) gtin (shelf_by whole parts)
@@ -64,3 +56,34 @@ pub shelf-kept : (whole : List LogEntry) (place : ℕ) (gtin : List ℕ) (parts 
 shelf-kept whole place gtin parts same of =
     let longer = shelf-longer whole place gtin parts of in
     record { slots = longer.0; shelf = shelf-stays whole (take place whole) gtin (shelf_by whole parts) same longer.1 }
+
+-- the product has this shelf, and each other product its own
+abbrev pub IsShelved : List (List ℕ × ShelfParts) → List (List ℕ × ShelfParts) → List ℕ → ShelfParts → Type 0
+IsShelved old new gtin shelf = (other : List ℕ) → shelf_of other new ≡ cond (bytes_eq gtin other) shelf (shelf_of other old)
+
+-- where it has none, and nothing is written
+pub shelved-none : (old new : List (List ℕ × ShelfParts)) (gtin : List ℕ) → new ≡ old → shelf_of gtin old ≡ no_shelf → IsShelved old new gtin no_shelf
+shelved-none old new gtin same empty other = grind (arith, nat_tests, same_text gtin other)
+
+-- where the shelf of a product follows a log, which bears on no other product, all do
+pub shelves-follow : (old new : List (List ℕ × ShelfParts)) (gtin : List ℕ) (shelf : ShelfParts) → IsShelved old new gtin shelf → (whole before : List LogEntry)
+    → ((other : List ℕ) → AreShelfOf before other (shelf_of other old)) → AreShelfOf whole gtin shelf
+    → ((other : List ℕ) → bytes_eq gtin other ≡ false → (parts : ShelfParts) → AreShelfOf before other parts → AreShelfOf whole other parts) → (other : List ℕ) → AreShelfOf whole other (shelf_of other new)
+shelves-follow old new gtin shelf looks whole before shelves now away other = subst (AreShelfOf whole other) (sym (looks other)) (by (bytes_eq gtin other) refl)
+  where
+    by : (b : Bool) → bytes_eq gtin other ≡ b → AreShelfOf whole other (cond b shelf (shelf_of other old))
+    by true e = subst (λ (one : List ℕ). AreShelfOf whole one shelf) (same_text gtin other (sym e)) now
+    by false e = away other e (shelf_of other old) (shelves other)
+
+-- sets of numbers by batch, each as a list
+abbrev numbers_in : {S : Type 0} → List (List ℕ × HashSet ℕ S) → List (List ℕ × List ℕ)
+numbers_in sets = map (λ entry. (entry.0, entry.1.keys)) sets
+
+-- the numbers of a batch are those of its set
+numbers_found : {S : Type 0} → (batch : List ℕ) (sets : List (List ℕ × HashSet ℕ S)) → lookup (bytes_eq batch) (numbers_in sets) ≡ option_map (λ (set : HashSet ℕ S). set.keys) (lookup (bytes_eq batch) sets)
+numbers_found batch [] = refl
+numbers_found {S} batch (e ∷ es) = grind (arith, nat_tests, numbers_found batch es)
+
+pub listed_in : {S : Type 0} → (is_whole : Bool) (batch : List ℕ) (sets : List (List ℕ × HashSet ℕ S)) (number : ℕ)
+    → lists (record { is_whole = is_whole; numbers = numbers_in sets }) batch number ≡ (not is_whole || is_in sets batch number)
+listed_in {S} is_whole batch sets number = grind (arith, nat_tests, numbers_found batch sets)

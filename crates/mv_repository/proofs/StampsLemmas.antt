@@ -1,5 +1,5 @@
 -- Lemmas on the stamps of a log: they are distinct where none stands at two places.
-use Rattle.mv_repository.proofs.Words.{◌≡◌, ◌∷◌, ℕ, suc, List, [], refl, ap, arith, false, nat_eq, Option, Some, None, filter_map, AllByRecursion, IsDistinct, option_map, option_and_then, slice_get, nat_tests, Item, Receipt, Carried, LogEntry, Sent, sent_in, HasDistinctStamps}
+use Rattle.mv_repository.proofs.Words.{◌≡◌, ◌∷◌, ℕ, suc, List, [], arith, false, nat_eq, Option, Some, None, filter_map, AllByRecursion, IsDistinct, option_map, option_and_then, slice_get, nat_tests, Item, Receipt, Carried, LogEntry, Sent, sent_in, HasDistinctStamps}
 
 -- the stamp of an item that was carried, and of the one at a place of a log
 abbrev pub stamp_in : Item → Option ℕ
@@ -19,25 +19,16 @@ stamps_of log = filter_map (λ entry. option_map (λ (sent : Sent). sent.stamp) 
 apart : (a b : ℕ) → (b ≡ a → ⊥) → nat_eq a b ≡ false
 apart a b other = grind (arith, nat_tests)
 
--- an entry with its item
-abbrev with : LogEntry → Item → LogEntry
-with entry item = record { sender = entry.sender; item = item }
-
 none : (stamp : ℕ) (log : List LogEntry) → ((place : ℕ) → stamp_at log place ≡ Some stamp → ⊥) → AllByRecursion (λ other. nat_eq stamp other ≡ false) (stamps_of log)
 none stamp [] h = tt
-none stamp (entry ∷ log) h = by entry.item (none stamp log (λ place. h (suc place))) h
-  where
-    by : (item : Item) → AllByRecursion (λ other. nat_eq stamp other ≡ false) (stamps_of log)
-        → ((place : ℕ) → stamp_at (with entry item ∷ log) place ≡ Some stamp → ⊥) → AllByRecursion (λ other. nat_eq stamp other ≡ false) (stamps_of (with entry item ∷ log))
-    by (Receipt k reach query) later h = later
-    by (Carried k other message) later h = (apart stamp other (λ e. h 0 (ap Some e)), later)
+none stamp (entry ∷ log) h = grind (arith, nat_tests, apart, none stamp log (λ place. h (suc place)), h 0)
 
 -- where no stamp stands at two places, they are distinct
 pub distinct-stamps : (log : List LogEntry) → HasNoStampTwice log → HasDistinctStamps log
 unfolding IsDistinct
 distinct-stamps [] h = tt
-distinct-stamps (entry ∷ log) h = by entry.item (distinct-stamps log (λ first second stamp a b. omega (arith, h (suc first) (suc second) stamp a b))) h
-  where
-    by : (item : Item) → IsDistinct nat_eq (stamps_of log) → HasNoStampTwice (with entry item ∷ log) → IsDistinct nat_eq (stamps_of (with entry item ∷ log))
-    by (Receipt k reach query) later h = later
-    by (Carried k stamp message) later h = (none stamp log (λ place at. omega (arith, h 0 (suc place) stamp refl at)), later)
+distinct-stamps (entry ∷ log) h =
+    let later = distinct-stamps log (λ first second stamp a b. omega (arith, h (suc first) (suc second) stamp a b)) in
+    let apart : (stamp : ℕ) → stamp_in entry.item ≡ Some stamp → AllByRecursion (λ other. nat_eq stamp other ≡ false) (stamps_of log) =
+    λ stamp e. none stamp log (λ place at. omega (arith, h 0 (suc place) stamp e at)) in
+    grind (arith, nat_tests)

@@ -1,6 +1,8 @@
--- What a pack is depends on its own entries, the first recall of its batch and the first withdrawal of its product.
-use Rattle.mv_repository.proofs.Words.{◌≡◌, ◌∷◌, ◌++◌, List, [], refl, sym, ◌∙◌, append_assoc, Bool, true, false, cond, Option, Some, None, IfSome, find, fold, map, get_or, list_any, option_or, option_map, PackKey, LogEntry, Placed, stands_before, Ascends, KnownPack, batch_standing, pack_after_item, known_pack_from, known_pack, pack_made_by, FirstStops, first_stops, is_before, standing_at, entry_at, place_of, no_entry, is_upload_of, is_status_of, first_upload, statuses_of, pack_changed, pack_step, pack_grown, arith, nat_tests}
-use Rattle.mv_repository.proofs.OrderLemmas.{StandsBeforeAll, Stand, find-all}
+-- What a pack is depends on its own entries, the first recall of its batch and the first withdrawal of its product. What `next` gives
+-- is one step of it, so the place of one entry is all that has to be kept. The change of a pack names its status.
+use Rattle.mv_repository.proofs.Words.{◌≡◌, ◌∷◌, ◌++◌, List, [], refl, sym, ◌∙◌, append_assoc, Bool, true, false, cond, Option, Some, None, IfSome, find, fold, map, get_or, list_any, option_or, option_map, PackKey, LogEntry, Placed, stands_before, Ascends, KnownPack, batch_standing, pack_after_item, known_pack_from, known_pack, pack_made_by, FirstStops, first_stops, is_before, standing_at, entry_at, place_of, no_entry, is_upload_of, is_status_of, first_upload, statuses_of, pack_changed, pack_step, pack_grown, arith, nat_tests, ◌%◌, ℕ, AllByRecursion, BatchKey, Item, PartySet, has_party, PARTIES_LIMIT, IsCovered, BatchStanding, is_active, is_done, standing_in, change_in, known_at, effect_from, message_in, next_by, next_place, slice_get, Upload, Status, Carried, ordered, NamesStatus, ChangeNamesStatus}
+use Rattle.mv_repository.proofs.OrderLemmas.{StandsBeforeAll, Stand, find-all, AreOf, ordered-of}
+use Rattle.mv_repository.specs.declared.effect.Effect.TheVariants as effects
 
 -- what is found behind y doesn't stand before it
 not_before : (f : Placed → Bool) (y : Placed) (xs : List Placed) → StandsBeforeAll y xs → is_before (find f xs) y ≡ false
@@ -75,3 +77,65 @@ find-stand f log xs s = find-all (λ x. get_or log x.place no_entry ≡ x.entry)
 pub find-stands : (f : Placed → Bool) (log : List LogEntry) (xs : List Placed) → Stand log xs
     → option_map (entry_at log) (option_map place_of (find f xs)) ≡ find f xs
 find-stands f log xs s = grind (arith, nat_tests, find-stand f log xs s)
+
+pub born : (birth : Placed) → known_at birth birth ≡ pack_made_by birth.entry.item
+born birth = grind (arith, nat_tests)
+
+module _ (stops : FirstStops) (pack : PackKey) (birth by placed : Placed) (made : KnownPack) (is : pack_made_by birth.entry.item ≡ Some made) where
+  abbrev held : KnownPack
+  held = record made { standing = standing_in by.entry.item; change = change_in by }
+
+  abbrev standing : BatchKey → BatchStanding
+  standing = standing_at stops placed
+
+  stepped : (b : Bool) (item : Item) → placed.entry.item ≡ item
+      → known_at birth (cond (is_done (cond b (effect_from standing placed.entry.sender (message_in item) pack.gtin held) effects.Unknown)) (cond (is_active (standing_in item)) birth placed) by)
+      ≡ Some (cond b (pack_changed standing placed.place placed.entry.sender item pack held) held)
+  stepped false item e = grind (arith, nat_tests)
+  stepped true item e = grind (arith, nat_tests)
+
+  next_made : known_at birth (next_by stops pack.gtin (Some birth) by placed) ≡ option_map (λ held. pack_step stops pack birth held placed) (known_at birth by)
+  next_made = grind (arith, nat_tests, stepped)
+
+-- the next entry by which a pack stands is one step of its state
+pub next-step : (stops : FirstStops) (pack : PackKey) (birth by placed : Placed)
+    → known_at birth (next_by stops pack.gtin (Some birth) by placed) ≡ option_map (λ held. pack_step stops pack birth held placed) (known_at birth by)
+next-step stops pack birth by placed = grind (arith, nat_tests, next_made stops pack birth by placed)
+
+-- and all of them, one after another, are the state
+pub grown-from : (stops : FirstStops) (pack : PackKey) (birth by : Placed) (xs : List Placed)
+    → option_map (λ held. fold (pack_step stops pack birth) held xs) (known_at birth by) ≡ known_at birth (fold (next_by stops pack.gtin (Some birth)) by xs)
+grown-from stops pack birth by [] = grind (arith, nat_tests)
+grown-from stops pack birth by (x ∷ xs) = grind (arith, nat_tests, grown-from stops pack birth (next_by stops pack.gtin (Some birth) by x) xs, next-step stops pack birth by x)
+
+-- a pack by its first upload and its statuses is what stands by the last of these entries
+pub grown-by : (stops : FirstStops) (pack : PackKey) (birth : Placed) (xs : List Placed)
+    → pack_grown stops pack (Some birth) xs ≡ known_at birth (fold (next_by stops pack.gtin (Some birth)) birth xs)
+grown-by stops pack birth xs = grind (arith, nat_tests, born, grown-from)
+
+-- so it does by many
+pub own_passed : (log : List LogEntry) (stops : FirstStops) (gtin : List ℕ) (birth by : ℕ) (own : List ℕ) (reverters : PartySet)
+    → is_active (standing_in (entry_at log by).entry.item) ≡ false → has_party reverters ((entry_at log by).entry.sender % PARTIES_LIMIT) ≡ false
+    → AllByRecursion (λ place. IsCovered reverters (entry_at log place)) own → fold (next_place log stops gtin birth) by own ≡ by
+own_passed log stops gtin birth by [] reverters changed none covered = refl
+own_passed log stops gtin birth by (place ∷ own) reverters changed none covered = grind (arith, nat_tests, own_passed log stops gtin birth by own reverters changed none covered.1)
+
+abbrev NamesIts : List LogEntry → PackKey → Option KnownPack → Type 0
+NamesIts log pack known = IfSome known (λ held. IfSome held.change (NamesStatus log pack held.standing))
+
+names-item : (log : List LogEntry) (pack : PackKey) (standing : BatchKey → BatchStanding) (place sender : ℕ) (item : Item) (known : Option KnownPack)
+    → slice_get log place ≡ Some (record { sender = sender; item = item })
+    → NamesIts log pack known → NamesIts log pack (pack_after_item standing place sender item pack known)
+names-item log pack standing place sender (Carried k stamp (Upload gtin batch expiry national serials)) None there names = grind (arith, nat_tests)
+names-item log pack standing place sender (Carried k stamp (Upload gtin batch expiry national serials)) (Some held) there names = grind (arith, nat_tests)
+names-item log pack standing place sender (Carried k stamp (Status key to user at)) None there names = grind (arith, nat_tests)
+names-item log pack standing place sender (Carried k stamp (Status key to user at)) (Some held) there names = grind (arith, nat_tests)
+names-item log pack standing place sender item known there names = names
+
+names-from : (log : List LogEntry) (pack : PackKey) (before xs : List Placed) (known : Option KnownPack) → AreOf log xs
+    → NamesIts log pack known → NamesIts log pack (known_pack_from before xs pack known)
+names-from log pack before [] known of names = names
+names-from log pack before (x ∷ xs) known of names = grind (arith, nat_tests, names-from log pack (before ++ x ∷ []) xs (pack_after_item (batch_standing before) x.place x.entry.sender x.entry.item pack known) of.1 (names-item log pack (batch_standing before) x.place x.entry.sender x.entry.item known of.0 names))
+
+pub change_names_status : (pack : PackKey) (log : List LogEntry) → ChangeNamesStatus pack log
+change_names_status pack log = names-from log pack [] (ordered log) None (ordered-of log) tt

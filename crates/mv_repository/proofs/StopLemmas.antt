@@ -1,11 +1,10 @@
 -- What a recall and a withdrawal do: their effects, the tables that find the first, and the packs on which they bear.
-use Rattle.mv_repository.proofs.Words.{AreFirstsOf, AreStopsOf, BatchKey, Bool, HasFirst, IfSome, IsShelfOf, Item, List, LogEntry, Option, Own, PackKey, Placed, ShelfTable, Some, Stop, Stops, [], arith, batch_key, bytes_eq, comes_first, common_steps, effect_after, effect_of, entries_before, false, find, first_place, first_stops, first_upload, get_or, is_master, is_recall_of, is_recalled_by, is_same_batch, is_status_of, is_stop, is_upload_of, is_withdrawal_of, is_withdrawn_by, lasting_effect, length, life_of, list_any, lookup, may_stop, nat_tests, next_by, no_entry, not, option_map, ordered, pack_key, place_of, recalled_in, rules, same_text, stopped_product, sym, take, true, true≢false, withdrawn_in, ℕ, ◌+◌, ◌∙◌, ◌∷◌, ◌≡◌}
+use Rattle.mv_repository.proofs.Words.{AreFirstsOf, AreStopsOf, BatchKey, Bool, HasFirst, IfSome, IsShelfOf, Item, List, LogEntry, Option, Own, PackKey, Placed, ShelfTable, Some, Stop, Stops, [], arith, batch_key, bytes_eq, comes_first, common_steps, effect_after, effect_of, entries_before, false, find, first_place, first_stops, first_upload, get_or, is_master, is_recall_of, is_same_batch, is_status_of, is_stop, is_upload_of, is_withdrawal_of, lasting_effect, length, life_of, list_any, lookup, may_stop, nat_tests, next_by, no_entry, not, option_map, ordered, pack_key, place_of, recalled_in, rules, same_text, stopped_product, sym, take, true, true≢false, withdrawn_in, ℕ, ◌+◌, ◌∙◌, ◌∷◌, ◌≡◌}
 use Rattle.mv_repository.proofs.BeforeLemmas.{any-before}
 use Rattle.mv_repository.proofs.KeptLemmas.{life_batch, same_batch, batch-self, text-self}
-use Rattle.mv_repository.proofs.OrderLemmas.{ordered-ascends, ordered-below, still-stand}
-use Rattle.mv_repository.proofs.StateLemmas.{find-stand}
+use Rattle.mv_repository.proofs.OrderLemmas.{ordered-ascends, ordered-below}
 use Rattle.mv_repository.proofs.StoppedLemmas.{once-all, one-recall, one-withdrawal}
-use Rattle.mv_repository.proofs.TableLemmas.{NamesNone, NoPack, at-newest, filter-none, find-more, find-none, find-some, longer, newest, newest-stands, recalls-stay, withdrawals-stay}
+use Rattle.mv_repository.proofs.TableLemmas.{NamesNone, NoPack, at-newest, filter-none, find-later, find-none, find-some, longer, newest, recalls-stay, withdrawals-stay}
 use Rattle.mv_repository.proofs.SerialLemmas.{AreSamePacks, serials-at}
 use Rattle.mv_repository.proofs.UploadedLemmas.{first-effect}
 use Rattle.mv_repository.specs.declared.stops.Stop.TheVariants as stops
@@ -30,27 +29,16 @@ lasting : (f : Placed → Bool) (log : List LogEntry) (entry : LogEntry) (place 
     → first ≡ comes_first (longer log entry) (length log) place → lasting_effect (not first) ≡ lasting_effect (list_any f (entries_before log entry))
 lasting f log entry place first e h = grind (arith, nat_tests, any-before f (newest log entry) (ordered log) (ordered-ascends log) (ordered-below log), first-effect)
 
-recall-effect : (key : BatchKey) (before : List Placed) (sender : ℕ) (item : Item) → is_recall_of key item ≡ true
-    → lasting_effect (is_recalled_by key before) ≡ effect_after before sender item
-recall-effect key before sender item h = search rules
+stops-so : (stop : Stop) (before : List Placed) (sender : ℕ) (item : Item) → is_stop stop item ≡ true → lasting_effect (list_any (λ placed. is_stop stop placed.entry.item) before) ≡ effect_after before sender item
+stops-so stop before sender item h = search rules
 
-withdrawal-effect : (gtin : List ℕ) (before : List Placed) (sender : ℕ) (item : Item) → is_withdrawal_of gtin item ≡ true
-    → lasting_effect (is_withdrawn_by gtin before) ≡ effect_after before sender item
-withdrawal-effect gtin before sender item h = search rules
+stop-found : (log : List LogEntry) (tables : Stops) (stop : Stop) → AreStopsOf log tables → first_place stop tables ≡ option_map place_of (find (λ placed. is_stop stop placed.entry.item) (ordered log))
+stop-found log tables stop are = grind (arith, nat_tests, are.recalls.found, are.withdrawals.found)
 
 stop-effect : (log : List LogEntry) (entry : LogEntry) (tables : Stops) (stop : Stop) (first : Bool) → AreStopsOf log tables → is_stop stop entry.item ≡ true
     → first ≡ comes_first (longer log entry) (length log) (first_place stop tables) → lasting_effect (not first) ≡ effect_of log entry
-stop-effect log entry tables (stops.OfBatch batch) first are e h =
-    lasting (λ placed. is_recall_of batch.now placed.entry.item) log entry (lookup (is_same_batch batch.now) tables.recalls.entries) first (are.recalls.found batch.now) h
-    ∙ recall-effect batch.now (entries_before log entry) entry.sender entry.item e
-stop-effect log entry tables (stops.OfProduct gtin) first are e h =
-    lasting (λ placed. is_withdrawal_of gtin.now placed.entry.item) log entry (lookup (bytes_eq gtin.now) tables.withdrawals.entries) first (are.withdrawals.found gtin.now) h
-    ∙ withdrawal-effect gtin.now (entries_before log entry) entry.sender entry.item e
-
--- an entry of a kind that is not the first of the kind leaves the first
-find-later : (f : Placed → Bool) (log : List LogEntry) (entry : LogEntry) → comes_first (longer log entry) (length log) (option_map place_of (find f (ordered log))) ≡ false
-    → find f (ordered (longer log entry)) ≡ find f (ordered log)
-find-later f log entry e = grind (arith, nat_tests, find-more, find-stand f (longer log entry) (ordered log) (still-stand log entry), newest-stands)
+stop-effect log entry tables stop first are e h =
+    lasting (λ placed. is_stop stop placed.entry.item) log entry (first_place stop tables) first (stop-found log tables stop are) h ∙ stops-so stop (entries_before log entry) entry.sender entry.item e
 
 -- one more of a kind of which each item has one key
 module _ {K : Type 0} (same : K → K → Bool) (is_of : K → Item → Bool) (keys_in : Item → List K) (log : List LogEntry) (entry : LogEntry) (places : List (K × ℕ)) (key : K)

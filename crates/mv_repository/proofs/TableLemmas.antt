@@ -1,6 +1,6 @@
 -- What the tables are after one more entry of the log.
-use Rattle.mv_repository.proofs.Words.{◌≡◌, ◌+◌, ◌∷◌, ◌++◌, bytes_eq, ℕ, zero, suc, arith, take, List, [], length, get_or, refl, sym, ◌∙◌, ap, Bool, true, false, cond, Option, Some, None, filter, find, map, get_or_push, length-take-le, lookup, option_map, Item, is_same_batch, BatchKey, LogEntry, recalled_in, serials_in, uploaded_in, Placed, passes, put_in, ordered, Ascends, is_recall_of, is_withdrawal_of, withdrawn_in, Stops, first_stops, stops_in, place_of, no_entry, AreFirstsOf, AreStopsOf, earlier_place, AreFound, entry_at, PackKey, is_upload_of, is_status_of, nat_tests}
-use Rattle.mv_repository.proofs.OrderLemmas.{cond_two, StandsBeforeAll, placed_at, ordered-ascends, ordered-push, Stand, still-stand, filter-all}
+use Rattle.mv_repository.proofs.Words.{◌≡◌, ◌+◌, ◌∷◌, ◌++◌, bytes_eq, ℕ, zero, suc, arith, take, List, [], length, get_or, refl, sym, ◌∙◌, ap, Bool, true, false, cond, Option, Some, None, filter, find, map, get_or_push, length-take-le, lookup, option_map, Item, is_same_batch, BatchKey, LogEntry, recalled_in, serials_in, uploaded_in, Placed, passes, put_in, ordered, Ascends, is_recall_of, is_withdrawal_of, withdrawn_in, Stops, first_stops, stops_in, place_of, no_entry, AreFirstsOf, AreStopsOf, comes_first, earlier_place, AreFound, entry_at, PackKey, is_upload_of, is_status_of, nat_tests}
+use Rattle.mv_repository.proofs.OrderLemmas.{StandsBeforeAll, placed_at, ordered-ascends, ordered-push, Stand, still-stand, filter-all}
 use Rattle.mv_repository.proofs.StateLemmas.{find-stand, find-stands}
 use Rattle.mv_repository.proofs.StoppedLemmas.{once-all, no-recall, no-withdrawal}
 
@@ -34,7 +34,7 @@ first_in (x ∷ xs) = Some x
 
 pub find-first : (f : Placed → Bool) (xs : List Placed) → find f xs ≡ first_in (filter f xs)
 find-first f [] = refl
-find-first f (x ∷ xs) = cond_two (f x) (Some x) (find f xs) (x ∷ filter f xs) (filter f xs) (λ o l. o ≡ first_in l) (λ e. refl) (λ e. find-first f xs)
+find-first f (x ∷ xs) = grind (arith, nat_tests, find-first f xs)
 
 -- places with the newest put in
 abbrev pub put_place : List LogEntry → ℕ → List ℕ → List ℕ
@@ -87,6 +87,11 @@ filter-none f log entry h = filter-more f log entry ∙ ap (λ b. cond b (put_in
 pub find-some : (f : Placed → Bool) (log : List LogEntry) (entry : LogEntry) → f (newest log entry) ≡ true
     → option_map place_of (find f (ordered (longer log entry))) ≡ earlier_place (longer log entry) (length log) (option_map place_of (find f (ordered log)))
 find-some f log entry h = grind (arith, nat_tests, find-more, find-stand f (longer log entry) (ordered log) (still-stand log entry), newest-stands)
+
+-- an entry of a kind that is not the first of the kind leaves the first
+pub find-later : (f : Placed → Bool) (log : List LogEntry) (entry : LogEntry) → comes_first (longer log entry) (length log) (option_map place_of (find f (ordered log))) ≡ false
+    → find f (ordered (longer log entry)) ≡ find f (ordered log)
+find-later f log entry e = grind (arith, nat_tests, find-more, find-stand f (longer log entry) (ordered log) (still-stand log entry), newest-stands)
 
 pub filter-some : (f : Placed → Bool) (log : List LogEntry) (entry : LogEntry) → f (newest log entry) ≡ true
     → map place_of (filter f (ordered (longer log entry))) ≡ put_place (longer log entry) (length log) (map place_of (filter f (ordered log)))

@@ -1,87 +1,102 @@
--- What is kept of a pack, and worked out by places in a log, is what the log means.
-use Rattle.mv_repository.proofs.Words.{AllByRecursion, AreBlocks, AreStopsOf, Ascends, BatchKey, BatchStanding, Block, Carried, Effect, FirstStops, IfSome, IsCovered, IsKept, IsTrack, Item, Kept, KnownPack, List, LogEntry, None, Option, PackKey, PartySet, Placed, Some, Status, Stops, [], ap, arith, batch_key, batch_standing, change_effect, common_steps, cond, cond_both, drop, drop-map, effect_after, effect_from, effect_of, effect_on, entries_before, entry_at, false, filter, first_stops, first_upload, fold, get_or, get_or-insert_at, insert, is_active, is_done, is_master, is_same_pack, is_status_of, is_upload_of, known_pack, length, length-map, length-take-le, life_of, map, message_in, nat_tests, next_by, next_place, no_entry, option_map, option_map_or, ordered, pack_grown, place_of, refl, rules, standing_at, standing_in, start_of, statuses_of, stops_in, subst, sym, take, take-map, take_at, track_of, true, true≢false, unwrap_or, uploaded_in, ℕ, ◌<◌, ◌∙◌, ◌∷◌, ◌≡◌, ◌≤◌}
-use Rattle.mv_repository.specs.declared.effect.Effect.TheVariants as effects
-use Rattle.mv_repository.proofs.OrderLemmas.{ordered-ascends, ordered-below, ordered-stand, Stand, still-stand}
-use Rattle.mv_repository.proofs.StateLemmas.{entry-stands, map-stands, find-stand}
+-- What is kept of a pack, and worked out by places in a log, is what the log means; and where a status goes.
+use Rattle.mv_repository.proofs.Words.{AllByRecursion, AreBlocks, AreStopsOf, Ascends, BatchKey, BatchStanding, Block, Carried, Effect, FirstStops, IfSome, IsCovered, IsKept, IsTrack, Item, Kept, KnownPack, List, LogEntry, None, Option, PackKey, PartySet, Placed, Some, Status, Stops, [], ap, arith, batch_key, batch_standing, change_effect, cond, cond_both, drop, drop-map, effect_after, effect_from, effect_of, effect_on, entries_before, entry_at, false, filter, first_stops, first_upload, fold, get_or, get_or-insert_at, insert, is_active, is_done, is_master, is_same_pack, is_status_of, is_upload_of, known_pack, length, length-map, length-take-le, life_of, map, message_in, nat_tests, next_by, next_place, no_entry, option_map, option_map_or, ordered, pack_grown, place_of, refl, rules, standing_at, standing_in, statuses_of, stops_in, subst, sym, take, take-map, take_at, track_of, true, true≢false, without, uploaded_in, ℕ, ◌+◌, ◌<◌, ◌∙◌, ◌∷◌, ◌≡◌, ◌≤◌, zero, suc, not, Bool, passes, stands_before, IsPartitionedBy, IsPartitionPoint}
+use Rattle.mv_repository.proofs.OrderLemmas.{ordered-ascends, ordered-below, ordered-stand, Stand, still-stand, StandsBeforeAll}
+use Rattle.mv_repository.proofs.BlockLemmas.{without-insert}
+use mathlib.Core.Path.{transport}
+use Rattle.mv_repository.proofs.StateLemmas.{entry-stands, map-stands, find-stand, grown-by}
 use Rattle.mv_repository.proofs.BeforeLemmas.{stays_before, counted, find-below, known-before, standing-before}
 use Rattle.mv_repository.proofs.KeptLemmas.{same_pack}
-use Rattle.mv_repository.proofs.TableLemmas.{longer, newest, newest-stands, filter-ascends, filter-stand, filter-some, find-none, stops-found, stops-stay, StopsNone, put_place}
-use Rattle.mv_repository.proofs.PlaceLemmas.{IsCutFor, place_cut, places_before}
-use Rattle.mv_repository.proofs.NextLemmas.{grown-by}
+use Rattle.mv_repository.proofs.TableLemmas.{longer, newest, newest-stands, filter-ascends, filter-stand, filter-some, find-none, stops-found, stops-stay, StopsNone, put_place, at-newest}
+use Rattle.mv_repository.specs.declared.effect.Effect.TheVariants as effects
 
--- by entries that stand in the log
-abbrev Stands : List LogEntry → Placed → Type 0
-Stands log x = get_or log x.place no_entry ≡ x.entry
+before_get : (log : List LogEntry) (x : Placed) (js : List ℕ) (i d : ℕ) → StandsBeforeAll x (map (entry_at log) js) → i < length js → stands_before x (entry_at log (get_or js i d)) ≡ true
+before_get log x [] i d h l = absurd (omega arith)
+before_get log x (j ∷ js) zero d h l = h.0
+before_get log x (j ∷ js) (suc i) d h l = before_get log x js i d h.1 (omega arith)
 
-next-stands : (log : List LogEntry) (stops : FirstStops) (gtin : List ℕ) (birth by x : Placed) → Stands log birth → Stands log by → Stands log x → Stands log (next_by stops gtin (Some birth) by x)
-next-stands log stops gtin birth by x b y s =
-    cond_both (is_done (effect_on stops gtin (Some birth) by x)) (cond (is_active (standing_in x.entry.item)) birth x) by (Stands log)
-    (λ d. cond_both (is_active (standing_in x.entry.item)) birth x (Stands log) (λ a. b) (λ a. s)) (λ d. y)
+pub not_twice : (b c : Bool) → not b ≡ c → b ≡ not c
+not_twice b c e = grind (arith, nat_tests)
 
--- a pack that an upload made stands by an entry of the log; the others stand by none
-abbrev pub StandsBy : List LogEntry → Option Placed → Placed → Type 0
-StandsBy log birth by = IfSome birth (λ (first : Placed). Stands log first × Stands log by)
+module _ (log : List LogEntry) (new : ℕ) where
+  -- the newest does not pass the entry at a place
+  abbrev pub stays_at : ℕ → Bool
+  stays_at place = not (passes (entry_at log new) (entry_at log place))
 
-stands-on : (log : List LogEntry) (stops : FirstStops) (gtin : List ℕ) (birth : Option Placed) (by x : Placed) → StandsBy log birth by → Stands log x → StandsBy log birth (next_by stops gtin birth by x)
-stands-on log stops gtin None by x b s = tt
-stands-on log stops gtin (Some birth) by x b s = (b.0, next-stands log stops gtin birth by x b.0 b.1 s)
+  -- what passes one passes all from there on
+  pub parted : (places : List ℕ) → Ascends (map (entry_at log) places) → IsPartitionedBy stays_at places
+  parted [] a i j d h l e = absurd (omega arith)
+  parted (p ∷ ps) a zero zero d h l e = e
+  parted (p ∷ ps) a zero (suc j) d h l e = grind (arith, nat_tests, before_get log (entry_at log p) ps j d a.0)
+  parted (p ∷ ps) a (suc i) j d h l e = grind (arith, nat_tests, parted ps a.1 i)
 
-pub stands-all : (log : List LogEntry) (stops : FirstStops) (gtin : List ℕ) (birth : Option Placed) (by : Placed) (xs : List Placed) → StandsBy log birth by → Stand log xs → StandsBy log birth (fold (next_by stops gtin birth) by xs)
-stands-all log stops gtin birth by [] b s = b
-stands-all log stops gtin birth by (x ∷ xs) b s = grind (arith, nat_tests, stands-all log stops gtin birth (next_by stops gtin birth by x) xs (stands-on log stops gtin birth by x b s.0) s.1)
+  -- those places whose entries the newest does not pass
+  abbrev pub places_before : List ℕ → List ℕ
+  places_before places = filter stays_at places
 
-next-place : (log : List LogEntry) (stops : FirstStops) (gtin : List ℕ) (birth : Option Placed) (by x : Placed) → StandsBy log birth by → Stands log x
-    → next_place log stops gtin (option_map place_of birth) by.place x.place ≡ (next_by stops gtin birth by x).place
-next-place log stops gtin birth by x h1 h2 = grind (arith, entry-stands)
+  -- places are cut so that all behind are passed and none in front is
+  abbrev pub IsCutFor : List ℕ → ℕ → Type 0
+  IsCutFor places k =
+      IsPartitionPoint (λ place. passes (entry_at log new) (entry_at log place) ≡ false) (λ place. passes (entry_at log new) (entry_at log place) ≡ true) places k
 
--- by which entry it stands behind its statuses
-pub fold-places : (log : List LogEntry) (stops : FirstStops) (gtin : List ℕ) (birth : Option Placed) (by : Placed) (xs : List Placed) → StandsBy log birth by → Stand log xs
-    → fold (next_place log stops gtin (option_map place_of birth)) by.place (map place_of xs) ≡ (fold (next_by stops gtin birth) by xs).place
-fold-places log stops gtin birth by [] b s = refl
-fold-places log stops gtin birth by (x ∷ xs) b s = grind (arith, nat_tests, fold-places log stops gtin birth (next_by stops gtin birth by x) xs (stands-on log stops gtin birth by x b s.0) s.1, next-place)
+  -- there the newest goes
+  pub place_cut : (places : List ℕ) (k : ℕ) → k ≤ length places → IsCutFor places k
+      → (insert places k new ≡ put_place log new places) × (take k places ≡ places_before places)
+  place_cut [] k l c = grind (arith, nat_tests)
+  place_cut (p ∷ ps) zero l c = grind (arith, nat_tests, place_cut ps zero (omega arith) (λ i d h g. absurd (omega (arith, g)), λ i d h g. c.1 (suc i) d (omega arith) (omega arith)), c.1 0 0 (omega arith) (omega arith))
+  place_cut (p ∷ ps) (suc k) l c = grind (arith, nat_tests, place_cut ps k (omega arith) (λ i d h g. c.0 (suc i) d (omega arith) (omega arith), λ i d h g. c.1 (suc i) d (omega arith) (omega arith)), c.0 0 0 (omega arith) (omega arith))
 
-covered-places : (log : List LogEntry) (reverters : PartySet) (xs : List Placed) → Stand log xs
-    → AllByRecursion (λ place. IsCovered reverters (entry_at log place)) (map place_of xs) ≡ AllByRecursion (λ placed. IsCovered reverters placed) xs
-covered-places log reverters [] s = refl
-covered-places log reverters (x ∷ xs) s = λ i. IsCovered reverters (entry-stands log x s.0 i) × covered-places log reverters xs s.1 i
+-- by places in a log a pack goes as by the entries there
+module _ (log : List LogEntry) (stops : FirstStops) (gtin : List ℕ) (birth : ℕ) where
+  abbrev N : ℕ → ℕ → ℕ
+  N = next_place log stops gtin birth
 
-stand-take : (log : List LogEntry) (n : ℕ) (xs : List Placed) → Stand log xs → Stand log (take n xs)
-stand-take log n xs h1 = grind (arith, common_steps)
+  abbrev next : Placed → Placed → Placed
+  next = next_by stops gtin (Some (entry_at log birth))
 
-stand-drop : (log : List LogEntry) (n : ℕ) (xs : List Placed) → Stand log xs → Stand log (drop n xs)
-stand-drop log n xs h1 = grind (arith, common_steps)
+  abbrev IsThere : Placed → Type 0
+  IsThere placed = entry_at log placed.place ≡ placed
 
--- what its blocks are
-pub blocks-places : (log : List LogEntry) (stops : FirstStops) (gtin : List ℕ) (birth : Option Placed) (start by : Placed) (bs : List Block) (xs : List Placed)
-    → StandsBy log birth start → StandsBy log birth by → Stand log xs
-    → AreBlocks (entry_at log) (next_place log stops gtin (option_map place_of birth)) start.place by.place bs (map place_of xs) ≡ AreBlocks (λ placed. placed) (next_by stops gtin birth) start by bs xs
-blocks-places log stops gtin birth start by [] xs f b s = refl
-blocks-places log stops gtin birth start by (one ∷ bs) xs f b s =
-    let others = blocks-places log stops gtin birth start (fold (next_by stops gtin birth) by (take one.count xs)) bs (drop one.count xs) f
-    (stands-all log stops gtin birth by (take one.count xs) b (stand-take log one.count xs s)) (stand-drop log one.count xs s) in
-    λ i. (one.count ≤ length-map xs place_of i) × (one.after ≡ behind by b i) × ((one.of_active ≡ behind start f i) × covered i) × rest others i
-  where
-    N : ℕ → ℕ → ℕ
-    N = next_place log stops gtin (option_map place_of birth)
+  next-at : (by x : ℕ) → entry_at log (N by x) ≡ next (entry_at log by) (entry_at log x)
+  next-at by x =
+      cond_both (is_done (effect_on stops gtin (entry_at log birth) (entry_at log by) (entry_at log x))) (cond (is_active (standing_in (entry_at log x).entry.item)) (entry_at log birth) (entry_at log x)) (entry_at log by) IsThere
+      (λ d. cond_both (is_active (standing_in (entry_at log x).entry.item)) (entry_at log birth) (entry_at log x) IsThere (λ a. refl) (λ a. refl)) (λ d. refl)
 
-    next : Placed → Placed → Placed
-    next = next_by stops gtin birth
+  fold-at : (by : ℕ) (xs : List ℕ) → entry_at log (fold N by xs) ≡ fold next (entry_at log by) (map (entry_at log) xs)
+  fold-at by [] = refl
+  fold-at by (x ∷ xs) = fold-at (N by x) xs ∙ ap (λ (placed : Placed). fold next placed (map (entry_at log) xs)) (next-at by x)
 
-    stand : Stand log (take one.count xs)
-    stand = stand-take log one.count xs s
+  covered-at : (reverters : PartySet) (xs : List ℕ)
+      → AllByRecursion (λ place. IsCovered reverters (entry_at log place)) xs ≡ AllByRecursion (λ placed. IsCovered reverters placed) (map (entry_at log) xs)
+  covered-at reverters [] = refl
+  covered-at reverters (x ∷ xs) = λ i. IsCovered reverters (entry_at log x) × covered-at reverters xs i
 
-    behind : (y : Placed) → StandsBy log birth y → fold N y.place (take one.count (map place_of xs)) ≡ (fold next y (take one.count xs)).place
-    behind y g = ap (fold N y.place) (take-map place_of one.count xs) ∙ fold-places log stops gtin birth y (take one.count xs) g stand
+  blocks-at : (by : ℕ) (bs : List Block) (xs : List ℕ)
+      → AreBlocks (entry_at log) N birth by bs xs ≡ AreBlocks (λ placed. placed) next (entry_at log birth) (entry_at log by) bs (map (entry_at log) xs)
+  blocks-at by [] xs = refl
+  blocks-at by (one ∷ bs) xs =
+      let others = blocks-at (fold N by (take one.count xs)) bs (drop one.count xs)
+      ∙ (λ i. AreBlocks (λ placed. placed) next (entry_at log birth) (behind by i) bs (sym (drop-map (entry_at log) one.count xs) i)) in
+      λ i. (one.count ≤ sym (length-map xs (entry_at log)) i) × (one.after ≡ (behind by i).place) × ((one.of_active ≡ (behind birth i).place) × covered i) × others i
+    where
+      behind : (y : ℕ) → entry_at log (fold N y (take one.count xs)) ≡ fold next (entry_at log y) (take one.count (map (entry_at log) xs))
+      behind y = fold-at y (take one.count xs) ∙ ap (fold next (entry_at log y)) (sym (take-map (entry_at log) one.count xs))
 
-    covered : AllByRecursion (λ place. IsCovered one.reverters (entry_at log place)) (take one.count (map place_of xs)) ≡ AllByRecursion (λ placed. IsCovered one.reverters placed) (take one.count xs)
-    covered = ap (AllByRecursion (λ place. IsCovered one.reverters (entry_at log place))) (take-map place_of one.count xs) ∙ covered-places log one.reverters (take one.count xs) stand
+      covered : AllByRecursion (λ place. IsCovered one.reverters (entry_at log place)) (take one.count xs) ≡ AllByRecursion (λ placed. IsCovered one.reverters placed) (take one.count (map (entry_at log) xs))
+      covered = covered-at one.reverters (take one.count xs) ∙ ap (AllByRecursion (λ placed. IsCovered one.reverters placed)) (sym (take-map (entry_at log) one.count xs))
 
-    rest : AreBlocks (entry_at log) N start.place (fold next by (take one.count xs)).place bs (map place_of (drop one.count xs)) ≡ AreBlocks (λ placed. placed) next start (fold next by (take one.count xs)) bs (drop one.count xs)
-        → AreBlocks (entry_at log) N start.place (fold N by.place (take one.count (map place_of xs))) bs (drop one.count (map place_of xs)) ≡ AreBlocks (λ placed. placed) next start (fold next by (take one.count xs)) bs (drop one.count xs)
-    rest others = (λ i. AreBlocks (entry_at log) N start.place (behind by b i) bs (drop-map place_of one.count xs i)) ∙ others
+-- so it does by entries that stand in the log
+module _ (log : List LogEntry) (stops : FirstStops) (gtin : List ℕ) (birth : Placed) (own : List Placed) (there : get_or log birth.place no_entry ≡ birth.entry) (stand : Stand log own) where
+  pub fold-own : entry_at log (fold (next_place log stops gtin birth.place) birth.place (map place_of own)) ≡ fold (next_by stops gtin (Some birth)) birth own
+  fold-own = fold-at log stops gtin birth.place birth.place (map place_of own)
+      ∙ (λ i. fold (next_by stops gtin (Some (entry-stands log birth there i))) (entry-stands log birth there i) (map-stands log own stand i))
 
-start-place : (birth : Option Placed) → unwrap_or (option_map place_of birth) 0 ≡ (unwrap_or birth (entry_at [] 0)).place
-start-place birth = grind (arith, nat_tests)
+  pub fold-stands : entry_at log (fold (next_by stops gtin (Some birth)) birth own).place ≡ fold (next_by stops gtin (Some birth)) birth own
+  fold-stands = ap (λ (placed : Placed). entry_at log placed.place) (sym fold-own) ∙ fold-own
+
+  blocks-own : (bs : List Block) → AreBlocks (entry_at log) (next_place log stops gtin birth.place) birth.place birth.place bs (map place_of own)
+      ≡ AreBlocks (λ placed. placed) (next_by stops gtin (Some birth)) birth birth bs own
+  blocks-own bs = blocks-at log stops gtin birth.place birth.place bs (map place_of own)
+      ∙ (λ i. AreBlocks (λ placed. placed) (next_by stops gtin (Some (entry-stands log birth there i))) (entry-stands log birth there i) (entry-stands log birth there i) bs (map-stands log own stand i))
 
 -- what is kept of a pack is worked out, also by a log that begins with its own
 module _ (whole log : List LogEntry) (tables : Stops) (pack : PackKey) (stand : Stand whole (ordered log)) (stops : AreStopsOf log tables) where
@@ -91,38 +106,39 @@ module _ (whole log : List LogEntry) (tables : Stops) (pack : PackKey) (stand : 
   own-stand : Stand whole own
   own-stand = filter-stand (λ placed. is_status_of pack placed.entry.item) whole (ordered log) stand
 
-  abbrev first : Option Placed
-  first = first_upload pack (ordered log)
-
-  abbrev start : Placed
-  start = start_of (life_of pack log)
-
-  abbrev birth : Option ℕ
-  birth = option_map place_of first
-
-  abbrev N : FirstStops → Option ℕ → ℕ → ℕ → ℕ
-  N stops b = next_place whole stops pack.gtin b
-
-  start-stands : StandsBy whole first start
-  start-stands = grind (arith, nat_tests, find-stand (λ placed. is_upload_of pack placed.entry.item) whole (ordered log) stand)
-
   found : stops_in whole tables ≡ first_stops (ordered log)
   found = stops-found whole log tables stand stops
 
-  by-same : fold (N (stops_in whole tables) birth) (unwrap_or birth 0) (map place_of own) ≡ (track_of pack log).by
-  by-same = grind (arith, nat_tests, N, fold-places, found, own-stand, start-place, start-stands)
+  by-same : (birth : Option Placed) → IfSome birth (λ y. get_or whole y.place no_entry ≡ y.entry)
+      → option_map_or (λ b. fold (next_place whole (stops_in whole tables) pack.gtin b) b (map place_of own)) (option_map place_of birth) 0
+      ≡ option_map_or (λ b. (fold (next_by (first_stops (ordered log)) pack.gtin birth) b own).place) birth 0
+  by-same None s = refl
+  by-same (Some y) s = grind (arith, nat_tests, found, fold-own whole (first_stops (ordered log)) pack.gtin y own s own-stand)
 
-  abbrev At : Option ℕ → List ℕ → List Block → Type 0
-  At b own blocks = AreBlocks (entry_at whole) (N (stops_in whole tables) b) (unwrap_or b 0) (unwrap_or b 0) blocks own
+  blocks-same : (birth : Option Placed) → IfSome birth (λ y. get_or whole y.place no_entry ≡ y.entry) → (bs : List Block)
+      → IfSome (option_map place_of birth) (λ b. AreBlocks (entry_at whole) (next_place whole (stops_in whole tables) pack.gtin b) b b bs (map place_of own))
+      ≡ IfSome birth (λ b. AreBlocks (λ placed. placed) (next_by (first_stops (ordered log)) pack.gtin birth) b b bs own)
+  blocks-same None s bs = refl
+  blocks-same (Some y) s bs = (λ i. AreBlocks (entry_at whole) (next_place whole (found i) pack.gtin y.place) y.place y.place bs (map place_of own)) ∙ blocks-own whole (first_stops (ordered log)) pack.gtin y own s own-stand bs
 
-  blocks-same : (blocks : List Block) → At birth (map place_of own) blocks ≡ AreBlocks (λ placed. placed) (life_of pack log).next start start blocks own
-  blocks-same blocks = search (found, start-place, blocks-places, start-stands, own-stand)
+  there : IfSome (first_upload pack (ordered log)) (λ y. get_or whole y.place no_entry ≡ y.entry)
+  there = find-stand (λ placed. is_upload_of pack placed.entry.item) whole (ordered log) stand
+
+  kept-same : (kept : Kept) → kept.birth ≡ option_map place_of (first_upload pack (ordered log)) → kept.statuses ≡ map place_of own
+      → IfSome kept.birth (λ b. AreBlocks (entry_at whole) (next_place whole (stops_in whole tables) pack.gtin b) b b kept.blocks kept.statuses)
+      ≡ IfSome (first_upload pack (ordered log)) (λ b. AreBlocks (λ placed. placed) (life_of pack log).next b b kept.blocks own)
+  kept-same kept b s = (λ i. IfSome (b i) (λ one. AreBlocks (entry_at whole) (next_place whole (stops_in whole tables) pack.gtin one) one one kept.blocks (s i)))
+      ∙ blocks-same (first_upload pack (ordered log)) there kept.blocks
 
   pub track-worked : (kept : Kept) → IsKept (life_of pack log) kept → IsTrack whole (stops_in whole tables) pack.gtin kept
-  track-worked kept k = grind (arith, by-same, blocks-same)
+  track-worked kept k = record {
+    by = grind (arith, by-same (first_upload pack (ordered log)) there);
+    blocks = transport (sym (kept-same kept (ap (λ (one : Kept). one.birth) k.bare) (ap (λ (one : Kept). one.statuses) k.bare))) k.blocks;
+  }
 
-  pub track-means : (kept : Kept) → kept.birth ≡ birth → kept.statuses ≡ map place_of own → IsTrack whole (stops_in whole tables) pack.gtin kept → IsKept (life_of pack log) kept
-  track-means kept b s t = grind (arith, by-same, blocks-same)
+  pub track-means : (kept : Kept) → kept.birth ≡ option_map place_of (first_upload pack (ordered log)) → kept.statuses ≡ map place_of own
+      → IsTrack whole (stops_in whole tables) pack.gtin kept → IsKept (life_of pack log) kept
+  track-means kept b s t = record { bare = grind (arith, by-same (first_upload pack (ordered log)) there); blocks = transport (kept-same kept b s) t.blocks }
 
 -- and what is worked out by its own log is what is to be kept
 pub track-is : (log : List LogEntry) (tables : Stops) (pack : PackKey) (kept : Kept) → AreStopsOf log tables
@@ -141,7 +157,10 @@ pub track-status : (log : List LogEntry) (entry : LogEntry) (tables : Stops) (pa
     → IsTrack (longer log entry) (stops_in (longer log entry) tables) pack.gtin kept → IsKept (life_of pack (longer log entry)) kept
 track-status log entry tables pack kept stops own b p w = grind (arith, nat_tests, filter-some, find-none, stops-stay, track-is)
 
--- the effect of a status
+-- the effect of a status at a place, behind those in front of it
+abbrev pub effect_at : List LogEntry → FirstStops → List ℕ → Option ℕ → List ℕ → ℕ → Effect
+effect_at log stops gtin birth front place =
+    option_map_or (λ b. effect_on stops gtin (entry_at log b) (entry_at log (fold (next_place log stops gtin b) b front)) (entry_at log place)) birth effects.Unknown
 
 front-places : (log : List LogEntry) (x : Placed) (xs : List Placed) → get_or log x.place no_entry ≡ x.entry → Stand log xs
     → places_before log x.place (map place_of xs) ≡ map place_of (filter (stays_before x) xs)
@@ -163,18 +182,14 @@ module _ (log : List LogEntry) (entry : LogEntry) (pack : PackKey) (xs : List Pl
   effect known = option_map_or (effect_from (standing_at S x) entry.sender (message_in entry.item) pack.gtin) known effects.Unknown
 
   effect-front : (birth : Option Placed) → IfSome birth (λ y. get_or whole y.place no_entry ≡ y.entry) → IfSome birth (λ y. y.place < length log)
-      → effect_on S pack.gtin (option_map (entry_at whole) (option_map place_of birth))
-      (entry_at whole (fold (next_place whole S pack.gtin (option_map place_of birth)) (unwrap_or (option_map place_of birth) 0) (map place_of xs))) (entry_at whole (length log))
-      ≡ effect (pack_grown S pack (counted x birth) xs)
+      → effect_at whole S pack.gtin (option_map place_of birth) (map place_of xs) (length log) ≡ effect (pack_grown S pack (counted x birth) xs)
   effect-front None b l = refl
-  effect-front (Some birth) b l = grind (arith, nat_tests, entry-stands, fold-places whole S pack.gtin (Some birth) birth xs (b, b) stand, stands-all whole S pack.gtin (Some birth) birth xs (b, b) stand, grown-by, newest-stands)
+  effect-front (Some birth) b l = grind (arith, nat_tests, entry-stands, fold-own whole S pack.gtin birth xs b stand, grown-by, newest-stands)
 
 -- it is what the status does
 pub status-effect : (log : List LogEntry) (entry : LogEntry) (tables : Stops) (pack : PackKey) (front : List ℕ) → AreStopsOf log tables → is_status_of pack entry.item ≡ true
     → front ≡ places_before (longer log entry) (length log) (track_of pack log).statuses
-    → effect_on (stops_in (longer log entry) tables) pack.gtin (option_map (entry_at (longer log entry)) (track_of pack log).birth)
-    (entry_at (longer log entry) (fold (next_place (longer log entry) (stops_in (longer log entry) tables) pack.gtin (track_of pack log).birth) (unwrap_or (track_of pack log).birth 0) front)) (entry_at (longer log entry) (length log))
-    ≡ effect_of log entry
+    → effect_at (longer log entry) (stops_in (longer log entry) tables) pack.gtin (track_of pack log).birth front (length log) ≡ effect_of log entry
 status-effect log entry tables pack front stops own p =
     let whole = longer log entry in
     let x = newest log entry in
@@ -183,8 +198,7 @@ status-effect log entry tables pack front stops own p =
     let found : stops_in whole tables ≡ first_stops (ordered log) = stops-found whole log tables (still-stand log entry) stops in
     let stand : Stand whole mine = filter-stand (λ placed. is_status_of pack placed.entry.item) whole (ordered log) (still-stand log entry) in
     let places : front ≡ map place_of (filter (stays_before x) mine) = p ∙ front-places whole x mine (newest-stands log entry) stand in
-    (λ i. effect_on (found i) pack.gtin (option_map (entry_at whole) (option_map place_of birth))
-    (entry_at whole (fold (next_place whole (found i) pack.gtin (option_map place_of birth)) (unwrap_or (option_map place_of birth) 0) (places i))) (entry_at whole (length log)))
+    (λ i. effect_at whole (found i) pack.gtin (option_map place_of birth) (places i) (length log))
     ∙ effect-front log entry pack (filter (stays_before x) mine) (filter-stand (stays_before x) whole mine stand) birth
     (find-stand (λ placed. is_upload_of pack placed.entry.item) whole (ordered log) (still-stand log entry))
     (find-below (λ placed. is_upload_of pack placed.entry.item) (length log) (ordered log) (ordered-below log))
@@ -200,41 +214,64 @@ status-effect log entry tables pack front stops own p =
     by _ e = absurd (true≢false (sym e))
 
 -- a status that is put in
+module _ (whole : List LogEntry) (place : ℕ) (tables : Stops) (pack : PackKey) (old : Kept) (l : length whole ≡ place + 1) (stops : AreStopsOf (take place whole) tables)
+    (kept : IsKept (life_of pack (take place whole)) old) where
+  abbrev log : List LogEntry
+  log = take place whole
 
-module _ (log : List LogEntry) (entry : LogEntry) (tables : Stops) (pack : PackKey) (old : Kept) where
-  pub put-ascend : (whole : List LogEntry) → whole ≡ longer log entry → IsKept (life_of pack log) old → Ascends (map (entry_at whole) old.statuses)
-  put-ascend whole e kept = grind (arith, nat_tests, filter-ascends, filter-stand, map-stands, ordered-ascends, still-stand log entry)
+  abbrev entry : LogEntry
+  entry = get_or whole place no_entry
+
+  pub put-ascend : Ascends (map (entry_at whole) old.statuses)
+  put-ascend = at-newest whole place l (λ w n. Ascends (map (entry_at w) old.statuses)) (grind (arith, nat_tests, filter-ascends, filter-stand, map-stands, ordered-ascends, still-stand log entry))
 
   -- what is kept is worked out by the longer log too
-  module _ (whole : List LogEntry) (e : whole ≡ longer log entry) (stops : AreStopsOf log tables) (kept : IsKept (life_of pack log) old) (own : List ℕ) (is : own ≡ old.statuses) where
-    put-track : IsTrack whole (stops_in whole tables) pack.gtin old
-    put-track = subst (λ (w : List LogEntry). IsTrack w (stops_in w tables) pack.gtin old) (sym e) (track-worked (longer log entry) log tables pack (still-stand log entry) stops old kept)
+  pub put-track : IsTrack whole (stops_in whole tables) pack.gtin old
+  put-track = at-newest whole place l (λ w n. IsTrack w (stops_in w tables) pack.gtin old) (track-worked (longer log entry) log tables pack (still-stand log entry) stops old kept)
 
-    pub put-blocks : AreBlocks (entry_at whole) (next_place whole (stops_in whole tables) pack.gtin old.birth) (unwrap_or old.birth 0) (unwrap_or old.birth 0) old.blocks own
-    put-blocks = subst (AreBlocks (entry_at whole) (next_place whole (stops_in whole tables) pack.gtin old.birth) (unwrap_or old.birth 0) (unwrap_or old.birth 0) old.blocks) (sym is) put-track.blocks
+  abbrev onward : ℕ → ℕ → ℕ → ℕ
+  onward = next_place whole (stops_in whole tables) pack.gtin
 
-    pub put-standing : old.by ≡ fold (next_place whole (stops_in whole tables) pack.gtin old.birth) (unwrap_or old.birth 0) own
-    put-standing = put-track.by ∙ ap (fold (next_place whole (stops_in whole tables) pack.gtin old.birth) (unwrap_or old.birth 0)) (sym is)
+  -- what is kept then
+  abbrev pub put : List ℕ → ℕ → List Block → Kept
+  put own by blocks = record { birth = old.birth; statuses = own; by = by; blocks = blocks }
 
-  module _ (at : ℕ) (now : Kept) (effect : Effect) where
-    -- what was found for it, and what was done behind it
-    pub record IsPut (whole : List LogEntry) (place : ℕ) : Type 0 where
-      pub within : at ≤ length old.statuses
-      pub cut : IsCutFor whole place old.statuses at
-      pub birth : now.birth ≡ old.birth
-      pub statuses : now.statuses ≡ insert old.statuses at place
-      pub worked : IsTrack whole (stops_in whole tables) pack.gtin now
-      pub done : effect ≡ effect_on (stops_in whole tables) pack.gtin (option_map (entry_at whole) old.birth)
-          (entry_at whole (fold (next_place whole (stops_in whole tables) pack.gtin old.birth) (unwrap_or old.birth 0) (take at now.statuses))) (entry_at whole (get_or now.statuses at 0))
+  -- without the status it is as it was
+  pub put-late : (birth at : ℕ) (own : List ℕ) → old.birth ≡ Some birth → at ≤ length old.statuses → own ≡ insert old.statuses at place
+      → AreBlocks (entry_at whole) (onward birth) birth birth old.blocks (without own at) × (old.by ≡ fold (onward birth) birth (without own at))
+  put-late birth at own b within o =
+      let same : old.statuses ≡ without own at = sym (without-insert old.statuses at place within) ∙ ap (λ (l : List ℕ). without l at) (sym o) in (
+        subst (AreBlocks (entry_at whole) (onward birth) birth birth old.blocks) same (subst (λ (o : Option ℕ). IfSome o (λ one. AreBlocks (entry_at whole) (onward one) one one old.blocks old.statuses)) b put-track.blocks),
+        subst (λ (o : Option ℕ). old.by ≡ option_map_or (λ one. fold (onward one) one old.statuses) o 0) b put-track.by ∙ ap (fold (onward birth) birth) same,
+      )
 
-    abbrev pub Done : List LogEntry → ℕ → Type 0
-    Done whole place = IsKept (life_of pack whole) now × (effect ≡ effect_of log entry)
+  put-status : (at by : ℕ) (blocks : List Block) (effect : Effect) (own : List ℕ) → is_status_of pack entry.item ≡ true → at ≤ length old.statuses → IsCutFor whole place old.statuses at
+      → own ≡ insert old.statuses at place → IsTrack whole (stops_in whole tables) pack.gtin (put own by blocks)
+      → effect ≡ effect_at whole (stops_in whole tables) pack.gtin old.birth (take at own) place → IsKept (life_of pack whole) (put own by blocks) × (effect ≡ effect_of log entry)
+  put-status at by blocks effect own is =
+      at-newest whole place l (λ w n. at ≤ length old.statuses → IsCutFor w n old.statuses at → own ≡ insert old.statuses at n → IsTrack w (stops_in w tables) pack.gtin (put own by blocks)
+      → effect ≡ effect_at w (stops_in w tables) pack.gtin old.birth (take at own) n → IsKept (life_of pack w) (put own by blocks) × (effect ≡ effect_of log entry))
+      (λ within cut o worked done.
+      grind (
+        arith,
+        nat_tests,
+        length-take-le,
+        place_cut (longer log entry) (length log) old.statuses at within cut,
+        take_at,
+        status-effect log entry tables pack (take at own) stops is,
+        track-status log entry tables pack (put own by blocks) stops is,
+      ))
 
-    module _ (stops : AreStopsOf log tables) (own : is_status_of pack entry.item ≡ true) (kept : IsKept (life_of pack log) old) where
-      put_newest : IsPut (longer log entry) (length log) → Done (longer log entry) (length log)
-      put_newest p = grind (arith, nat_tests, get_or-insert_at, length-take-le, place_cut (longer log entry) (length log) old.statuses at p.within p.cut, status-effect, take_at, track-status)
+  pub put-known : (birth at by : ℕ) (blocks : List Block) (effect : Effect) (own : List ℕ) → is_status_of pack entry.item ≡ true → at ≤ length old.statuses → IsCutFor whole place old.statuses at
+      → own ≡ insert old.statuses at place → old.birth ≡ Some birth → by ≡ fold (onward birth) birth own → AreBlocks (entry_at whole) (onward birth) birth birth blocks own
+      → effect ≡ effect_on (stops_in whole tables) pack.gtin (entry_at whole birth) (entry_at whole (fold (onward birth) birth (take at own))) (entry_at whole (get_or own at 0))
+      → IsKept (life_of pack whole) (put own by blocks) × (effect ≡ effect_of log entry)
+  put-known birth at by blocks effect own is within cut o some stands are done =
+      let there : get_or own at 0 ≡ place = grind (arith, nat_tests, get_or-insert_at) in
+      put-status at by blocks effect own is within cut o (record { by = grind arith; blocks = grind arith }) (grind arith)
 
-      pub put-status : (whole : List LogEntry) (place : ℕ) → whole ≡ longer log entry → place ≡ length log → IsPut whole place → Done whole place
-      put-status whole place e n =
-          subst (λ (w : List LogEntry). IsPut w place → Done w place) (sym e)
-          (subst (λ (m : ℕ). IsPut (longer log entry) m → Done (longer log entry) m) (sym n) put_newest)
+  -- where no upload names the pack it does nothing
+  pub put-unknown : (at : ℕ) (own : List ℕ) → is_status_of pack entry.item ≡ true → at ≤ length old.statuses → IsCutFor whole place old.statuses at → own ≡ insert old.statuses at place
+      → old.birth ≡ None → IsKept (life_of pack whole) (put own old.by old.blocks) × (effects.Unknown ≡ effect_of log entry)
+  put-unknown at own is within cut o none =
+      put-status at old.by old.blocks effects.Unknown own is within cut o (record { by = grind (arith, put-track); blocks = grind arith }) (grind arith)

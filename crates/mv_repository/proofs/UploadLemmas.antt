@@ -1,11 +1,11 @@
 -- An upload in what is kept of one pack.
-use Rattle.mv_repository.proofs.Words.{AreStopsOf, Bool, IfSome, IsKept, IsPackOf, IsShelfOf, IsTrack, IsUploadOf, Item, Kept, Life, List, LogEntry, Option, PackKey, Placed, ShelfTable, Some, Stops, [], ap, arith, batch_at, bytes_eq, comes_first, common_steps, cond, earlier_place, false, first_stops, first_upload, get_or, insert_key, is_listed, is_master, is_status_of, is_upload_of, kept_in, keys_of, length, life_of, list_any, list_any_more, lookup, made_batch, map, nat_tests, no_entry, option_and_then, option_map, or-false, or-true, ordered, pack_key, place_of, refl, same_text, serials_uploaded, statuses_of, stops_in, subst, sym, take, track_of, true, ℕ, ◌&&◌, ◌+◌, ◌<◌, ◌||◌, ◌∙◌, ◌∷◌, ◌≡◌}
+use Rattle.mv_repository.proofs.Words.{AreStopsOf, Bool, IfSome, IsChanged, IsPackOf, IsPut, IsShelfOf, IsUploadOf, Item, Kept, Life, List, LogEntry, Option, PackKey, Placed, ShelfTable, Some, Stops, [], ap, arith, batch_at, bytes_eq, comes_first, common_steps, cond, earlier_place, false, first_stops, first_upload, get_or, insert_key, is_listed, is_master, is_status_of, is_upload_of, kept_in, length, life_of, list_any, list_any_more, lookup, made_batch, nat_tests, no_entry, option_and_then, option_map, or-false, or-true, ordered, pack_key, place_of, refl, same_text, serials_uploaded, stops_in, subst, sym, take, track_of, true, ℕ, ◌&&◌, ◌+◌, ◌<◌, ◌||◌, ◌∙◌, ◌∷◌, ◌≡◌}
 use Rattle.mv_repository.proofs.KeptLemmas.{life_batch, text-self}
-use Rattle.mv_repository.proofs.OrderLemmas.{ordered-stand, still-stand}
+use Rattle.mv_repository.proofs.OrderLemmas.{ordered-stand}
 use Rattle.mv_repository.proofs.StateLemmas.{find-stand}
-use Rattle.mv_repository.proofs.TableLemmas.{earlier, longer, newest, newest-stands, find-more, find-none, find-some, filter-none, stops-stay, StopsNone, log-split, first-same}
+use Rattle.mv_repository.proofs.TableLemmas.{at-newest, longer, find-later, find-none, find-some, filter-none, stops-stay, StopsNone, log-split, first-same}
 use Rattle.mv_repository.proofs.SerialLemmas.{serials-at, status-serials}
-use Rattle.mv_repository.proofs.TrackLemmas.{status-form, track-worked, track-is}
+use Rattle.mv_repository.proofs.TrackLemmas.{status-form, track-is}
 
 -- a serial number is among these
 abbrev pub has : List (List ℕ) → List ℕ → Bool
@@ -37,119 +37,92 @@ untouched log entry pack n s none = life-same log entry pack n s (first-same log
 abbrev pub ArePacksOf : List LogEntry → List LogEntry → List (List ℕ) → List ℕ → ShelfTable → Type 0
 ArePacksOf now before done gtin shelf = (serial : List ℕ) → IsPackOf (life_of (pack_key gtin serial) (cond (has done serial) now before)) shelf serial
 
-pub if-some : {A : Type 0} {P Q : A → Type 0} → (o : Option A) → IfSome o P → ((x : A) → P x → Q x) → IfSome o Q
-if-some o p f = grind (arith, nat_tests)
-
 -- the batch of the upload at its place
 pub batch-there : (log : List LogEntry) (o : Option Placed) → IfSome o (λ x. get_or log x.place no_entry ≡ x.entry)
     → option_and_then (batch_at log) (option_map place_of o) ≡ option_and_then (λ (x : Placed). made_batch x.entry.item) o
 batch-there log o h = grind (arith, nat_tests)
 
-module _ (log : List LogEntry) (entry : LogEntry) (tables : Stops) (gtin : List ℕ) (serials : List (List ℕ))
-    (stops : AreStopsOf log tables) (upload : IsUploadOf entry.item gtin serials) where
-  still : AreStopsOf (longer log entry) tables
-  still = stops-stay log entry tables (upload-form entry.item gtin serials upload).1 stops
+-- an upload that names a pack is its first, or leaves it; by the log in front of the upload, or with it
+abbrev IsBorn : PackKey → List LogEntry → List LogEntry → ℕ → Type 0
+IsBorn pack log whole place = (done : Bool) →
+    (earlier_place whole place (track_of pack (cond done whole log)).birth ≡ (track_of pack whole).birth)
+    × ((track_of pack (cond done whole log)).statuses ≡ (track_of pack whole).statuses)
+    × (comes_first whole place (track_of pack (cond done whole log)).birth ≡ false → life_of pack (cond done whole log) ≡ life_of pack whole)
 
-  module _ (serial : List ℕ) where
-    abbrev pack : PackKey
-    pack = pack_key gtin serial
+is-born : (log : List LogEntry) (entry : LogEntry) (pack : PackKey) → is_upload_of pack entry.item ≡ true → is_status_of pack entry.item ≡ false → StopsNone entry.item
+    → IsBorn pack log (longer log entry) (length log)
+is-born log entry pack own s none true =
+    let birth = find-some (λ placed. is_upload_of pack placed.entry.item) log entry own in
+    (grind (arith, nat_tests, birth), refl, λ e. refl)
+is-born log entry pack own s none false = (
+  sym (find-some (λ placed. is_upload_of pack placed.entry.item) log entry own),
+  grind (arith, nat_tests, filter-none),
+  λ e. grind (arith, nat_tests, filter-none, find-later (λ placed. is_upload_of pack placed.entry.item) log entry e, first-same log entry none),
+)
 
-    -- a pack that has the upload, or has it not yet, is worked out by the longer log
-    worked_in : (done : Bool) (kept : Kept) → IsKept (life_of pack (cond done (longer log entry) log)) kept → IsTrack (longer log entry) (stops_in (longer log entry) tables) gtin kept
-    worked_in true = track-worked (longer log entry) (longer log entry) tables pack (ordered-stand (longer log entry)) still
-    worked_in false = track-worked (longer log entry) log tables pack (still-stand log entry) stops
+module _ (whole : List LogEntry) (place : ℕ) (l : length whole ≡ place + 1) (tables : Stops) (gtin : List ℕ) (serials : List (List ℕ))
+    (stops : AreStopsOf (take place whole) tables) (upload : IsUploadOf (get_or whole place no_entry).item gtin serials) where
+  abbrev log : List LogEntry
+  log = take place whole
 
-    new-birth : has serials serial ≡ true → earlier_place (longer log entry) (length log) (track_of pack log).birth ≡ (track_of pack (longer log entry)).birth
-    new-birth h = sym (find-some (λ placed. is_upload_of pack placed.entry.item) log entry (upload-has entry.item gtin serials upload serial ∙ h))
+  abbrev entry : LogEntry
+  entry = get_or whole place no_entry
 
-    has-birth : has serials serial ≡ true → (done : Bool) → earlier_place (longer log entry) (length log) (track_of pack (cond done (longer log entry) log)).birth ≡ (track_of pack (longer log entry)).birth
-    has-birth h done = grind (arith, nat_tests, new-birth)
+  still : AreStopsOf whole tables
+  still = at-newest whole place l (λ w n. AreStopsOf w tables) (stops-stay log entry tables (upload-form entry.item gtin serials upload).1 stops)
 
-    own-places : (done : Bool) → (track_of pack (cond done (longer log entry) log)).statuses ≡ map place_of (statuses_of pack (ordered (longer log entry)))
-    own-places done = grind (arith, nat_tests, filter-none)
+  -- a pack that has the upload, or has it not yet
+  is-uploaded : (serial : List ℕ) → has serials serial ≡ true → (done : Bool) (old new : ShelfTable) → IsPackOf (life_of (pack_key gtin serial) (cond done whole log)) old serial
+      → IsPut whole (stops_in whole tables) gtin place serial old new → IsPackOf (life_of (pack_key gtin serial) whole) new serial
+  is-uploaded serial among done old new of put = by (comes_first whole place (kept_in old serial).birth) refl
+    where
+      pack : PackKey
+      pack = pack_key gtin serial
 
-    is_uploaded : has serials serial ≡ true → (done : Bool) (was kept : Kept) → IsKept (life_of pack (cond done (longer log entry) log)) was
-        → kept.birth ≡ earlier_place (longer log entry) (length log) was.birth → kept.statuses ≡ was.statuses
-        → IsTrack (longer log entry) (stops_in (longer log entry) tables) gtin kept → IsKept (life_of pack (longer log entry)) kept
-    is_uploaded h done was kept k b p w =
-        track-is (longer log entry) tables pack kept still (b ∙ ap (λ (k : Kept). earlier_place (longer log entry) (length log) k.birth) k.bare ∙ has-birth h done)
-        (p ∙ ap (λ (k : Kept). k.statuses) k.bare ∙ own-places done) w
+      born : IsBorn pack log whole place
+      born = at-newest whole place l (IsBorn pack log) (is-born log entry pack (upload-has entry.item gtin serials upload serial ∙ among)
+          ((upload-form entry.item gtin serials upload).0 pack) (upload-form entry.item gtin serials upload).1)
 
-    -- its track is listed under the batch of the upload that is the first then
-    listed-first : (o : Option Placed) → IfSome o (λ y. get_or (longer log entry) y.place no_entry ≡ y.entry) → (L : List ℕ → Bool)
-        → IfSome (option_and_then (λ (y : Placed). made_batch y.entry.item) o) (λ batch. L batch ≡ true)
-        → (comes_first (longer log entry) (length log) (option_map place_of o) ≡ true → (batch : List ℕ) → batch_at (longer log entry) (length log) ≡ Some batch → L batch ≡ true)
-        → IfSome (option_and_then (λ (y : Placed). made_batch y.entry.item) (earlier (newest log entry) o)) (λ batch. L batch ≡ true)
-    listed-first o s L listed made = grind (arith, nat_tests, newest-stands)
+      first : comes_first whole place (track_of pack (cond done whole log)).birth ≡ comes_first whole place (kept_in old serial).birth
+      first = sym (ap (λ (k : Kept). comes_first whole place k.birth) of.kept.bare)
 
-    is_listed_now : has serials serial ≡ true → (done : Bool) (L : List ℕ → Bool) (birth : Option ℕ) → birth ≡ (track_of pack (cond done (longer log entry) log)).birth
-        → IfSome (life_batch (life_of pack (cond done (longer log entry) log))) (λ batch. L batch ≡ true)
-        → (comes_first (longer log entry) (length log) birth ≡ true → (batch : List ℕ) → batch_at (longer log entry) (length log) ≡ Some batch → L batch ≡ true)
-        → IfSome (life_batch (life_of pack (longer log entry))) (λ batch. L batch ≡ true)
-    is_listed_now h true L birth b listed made = listed
-    is_listed_now h false L birth b listed made =
-        grind (arith, nat_tests, find-more, upload-has entry.item gtin serials upload serial, listed-first (first_upload pack (ordered log)) (find-stand (λ placed. is_upload_of pack placed.entry.item) (longer log entry) (ordered log) (still-stand log entry)) L listed)
+      by : (b : Bool) → comes_first whole place (kept_in old serial).birth ≡ b → IsPackOf (life_of pack whole) new serial
+      by false e =
+          subst (λ (shelf : ShelfTable). IsPackOf (life_of pack whole) shelf serial) (sym (put.later e)) (subst (λ (life : Life). IsPackOf life old serial) ((born done).2 (first ∙ e)) of)
+      by true e =
+          let birth : Some place ≡ (track_of pack whole).birth = sym (ap (λ b. cond b (Some place) (track_of pack (cond done whole log)).birth) (first ∙ e)) ∙ (born done).0 in
+          record {
+            kept = track-is whole tables pack (kept_in new serial) still ((put.again e).birth ∙ birth)
+                ((put.again e).statuses ∙ ap (λ (k : Kept). k.statuses) of.kept.bare ∙ (born done).1) (put.again e).worked;
+            listed = subst (λ (o : Option (List ℕ)). IfSome o (λ batch. is_listed new.listing (lookup (bytes_eq serial) new.slots) batch ≡ true))
+                (ap (option_and_then (batch_at whole)) birth
+                ∙ batch-there whole (first_upload pack (ordered whole)) (find-stand (λ placed. is_upload_of pack placed.entry.item) whole (ordered whole) (ordered-stand whole))) (put.listed e);
+          }
 
-  module _ (old : ShelfTable) where
-    abbrev pub Uploads : List LogEntry → ℕ → List (List ℕ) → Type 0
-    Uploads whole place done = ArePacksOf whole log done gtin old → (serial : List ℕ) → IsTrack whole (stops_in whole tables) gtin (kept_in old serial)
+  -- one serial number more
+  pub upload-adds : (at : ℕ) (old new : ShelfTable) (serial : List ℕ) → at < length serials → serial ≡ get_or serials at [] → ArePacksOf whole log (take at serials) gtin old
+      → IsPut whole (stops_in whole tables) gtin place serial old new → ArePacksOf whole log (take (at + 1) serials) gtin new
+  upload-adds at old new serial within is are put other =
+      subst Now (sym (list_any_more (λ one. bytes_eq one other) serials at [] within ∙ ap (λ one. has (take at serials) other || bytes_eq one other) (sym is))) (by (bytes_eq serial other) refl)
+    where
+      Now : Bool → Type 0
+      Now done = IsPackOf (life_of (pack_key gtin other) (cond done whole log)) new other
 
-    worked_newest : (done : List (List ℕ)) → Uploads (longer log entry) (length log) done
-    worked_newest done are serial = worked_in serial (has done serial) (kept_in old serial) (are serial).kept
+      by : (t : Bool) → bytes_eq serial other ≡ t → Now (has (take at serials) other || t)
+      by true e =
+          subst Now (sym (or-true (has (take at serials) other))) (subst (λ (one : List ℕ). IsPackOf (life_of (pack_key gtin one) whole) new one) (same_text serial other (sym e))
+          (is-uploaded serial (ap (has serials) is ∙ has-own serials at within) (has (take at serials) serial) old new (are serial) put))
+      by false e = subst Now (sym (or-false (has (take at serials) other))) (put.changed.others other _ e (are other))
 
-    -- one serial number more
-    abbrev pub Adds : List LogEntry → ℕ → List (List ℕ) → ℕ → ShelfTable → List ℕ → Type 0
-    Adds whole place all at new serial =
-        all ≡ serials → at < length all → serial ≡ get_or all at [] → ArePacksOf whole log (take at all) gtin old
-        → (kept_in new serial).birth ≡ earlier_place whole place (kept_in old serial).birth → (kept_in new serial).statuses ≡ (kept_in old serial).statuses
-        → IsTrack whole (stops_in whole tables) gtin (kept_in new serial)
-        → ((other : List ℕ) → bytes_eq serial other ≡ false → kept_in new other ≡ kept_in old other)
-        → ((other batch : List ℕ) → is_listed old.listing (lookup (bytes_eq other) old.slots) batch ≡ true → is_listed new.listing (lookup (bytes_eq other) new.slots) batch ≡ true)
-        → (comes_first whole place (kept_in old serial).birth ≡ true → (batch : List ℕ) → batch_at whole place ≡ Some batch → is_listed new.listing (lookup (bytes_eq serial) new.slots) batch ≡ true)
-        → ArePacksOf whole log (take (at + 1) all) gtin new
-
-    adds_newest : (all : List (List ℕ)) (at : ℕ) (new : ShelfTable) (serial : List ℕ) → Adds (longer log entry) (length log) all at new serial
-    adds_newest all at new serial same l is are b p w others listed made other =
-        subst (λ b. IsPackOf (life_of (pack_key gtin other) (cond b (longer log entry) log)) new other) (sym (list_any_more (λ one. bytes_eq one other) all at [] l ∙ ap (λ one. has (take at all) other || bytes_eq one other) (sym is)))
-        (by (bytes_eq serial other) refl)
-      where
-        among : has serials serial ≡ true
-        among = ap (has serials) is ∙ ap (λ (s : List (List ℕ)). has s (get_or all at [])) (sym same) ∙ has-own all at l
-
-        mine : IsPackOf (life_of (pack_key gtin serial) (longer log entry)) new serial
-        mine = record {
-          kept = is_uploaded serial among (has (take at all) serial) (kept_in old serial) (kept_in new serial) (are serial).kept b p w;
-          listed = is_listed_now serial among (has (take at all) serial) (is_listed new.listing (lookup (bytes_eq serial) new.slots)) (kept_in old serial).birth
-              (ap (λ (k : Kept). k.birth) (are serial).kept.bare) (if-some _ (are serial).listed (listed serial)) made;
-        }
-
-        Now : Bool → Type 0
-        Now c = IsPackOf (life_of (pack_key gtin other) (cond c (longer log entry) log)) new other
-
-        by : (t : Bool) → bytes_eq serial other ≡ t → Now (has (take at all) other || t)
-        by true e = subst Now (sym (or-true (has (take at all) other))) (subst (λ (o : List ℕ). IsPackOf (life_of (pack_key gtin o) (longer log entry)) new o) (same_text serial other (sym e)) mine)
-        by false e =
-            subst Now (sym (or-false (has (take at all) other))) (record {
-              kept = subst (IsKept (life_of (pack_key gtin other) (cond (has (take at all) other) (longer log entry) log))) (sym (others other e)) (are other).kept;
-              listed = if-some _ (are other).listed (listed other);
-            })
-
-    module _ (whole : List LogEntry) (place : ℕ) (e : whole ≡ longer log entry) (n : place ≡ length log) where
-      pub upload-worked : (done : List (List ℕ)) → Uploads whole place done
-      upload-worked done = subst (λ (w : List LogEntry). Uploads w place done) (sym e) (subst (λ (m : ℕ). Uploads (longer log entry) m done) (sym n) (worked_newest done))
-
-      pub upload-adds : (all : List (List ℕ)) (at : ℕ) (new : ShelfTable) (serial : List ℕ) → Adds whole place all at new serial
-      upload-adds all at new serial = subst (λ (w : List LogEntry). Adds w place all at new serial) (sym e) (subst (λ (m : ℕ). Adds (longer log entry) m all at new serial) (sym n) (adds_newest all at new serial))
-
-      -- once all have it, each pack is as the longer log means it
-      pub upload-all : ArePacksOf whole log serials gtin old → (serial : List ℕ) → IsPackOf (life_of (pack_key gtin serial) whole) old serial
-      upload-all are serial = subst (λ (l : Life). IsPackOf l old serial) (by (has serials serial) refl) (are serial)
-        where
-          by : (b : Bool) → has serials serial ≡ b → life_of (pack_key gtin serial) (cond b whole log) ≡ life_of (pack_key gtin serial) whole
-          by true h = refl
-          by false h =
-              sym (untouched log entry (pack_key gtin serial) (upload-has entry.item gtin serials upload serial ∙ h) ((upload-form entry.item gtin serials upload).0 (pack_key gtin serial)) (upload-form entry.item gtin serials upload).1)
-              ∙ ap (life_of (pack_key gtin serial)) (sym e)
+  -- once all have it, each pack is as the longer log means it
+  pub upload-all : (shelf : ShelfTable) → ArePacksOf whole log serials gtin shelf → (serial : List ℕ) → IsPackOf (life_of (pack_key gtin serial) whole) shelf serial
+  upload-all shelf are serial = subst (λ (life : Life). IsPackOf life shelf serial) (by (has serials serial) refl) (are serial)
+    where
+      by : (b : Bool) → has serials serial ≡ b → life_of (pack_key gtin serial) (cond b whole log) ≡ life_of (pack_key gtin serial) whole
+      by true h = refl
+      by false h =
+          sym (untouched log entry (pack_key gtin serial) (upload-has entry.item gtin serials upload serial ∙ h) ((upload-form entry.item gtin serials upload).0 (pack_key gtin serial)) (upload-form entry.item gtin serials upload).1)
+          ∙ ap (life_of (pack_key gtin serial)) (sym (log-split whole place l))
 
 -- a status leaves the other packs of its product, and the upload of its own
 module _ (whole : List LogEntry) (place : ℕ) (pack : PackKey) (l : length whole ≡ place + 1) (own : is_status_of pack (get_or whole place no_entry).item ≡ true) where
@@ -165,13 +138,10 @@ module _ (whole : List LogEntry) (place : ℕ) (pack : PackKey) (l : length whol
   pub batch-noted : option_and_then (batch_at whole) (track_of pack before).birth ≡ life_batch (life_of pack whole)
   batch-noted = grind (arith, nat_tests, first-stays, batch-there whole (first_upload pack (ordered whole)) (find-stand (λ placed. is_upload_of pack placed.entry.item) whole (ordered whole) (ordered-stand whole)))
 
-  pub status-others : (old new : ShelfTable) → IsShelfOf before pack.gtin old → keys_of new.slots ≡ insert_key bytes_eq (keys_of old.slots) pack.serial → IsPackOf (life_of pack whole) new pack.serial
-      → ((other : List ℕ) → bytes_eq pack.serial other ≡ false → kept_in new other ≡ kept_in old other)
-      → ((other batch : List ℕ) → bytes_eq pack.serial other ≡ false → is_listed old.listing (lookup (bytes_eq other) old.slots) batch ≡ true → is_listed new.listing (lookup (bytes_eq other) new.slots) batch ≡ true)
-      → IsShelfOf whole pack.gtin new
-  status-others old new are keys now others listed = record {
+  pub status-others : (old new : ShelfTable) → IsShelfOf before pack.gtin old → IsChanged pack.serial old new → IsPackOf (life_of pack whole) new pack.serial → IsShelfOf whole pack.gtin new
+  status-others old new are changed now = record {
     packs = λ serial. by serial (bytes_eq pack.serial serial) refl;
-    serials = keys ∙ ap (λ (serials : List (List ℕ)). insert_key bytes_eq serials pack.serial) are.serials
+    serials = changed.keys ∙ ap (λ (serials : List (List ℕ)). insert_key bytes_eq serials pack.serial) are.serials
         ∙ sym (serials-at whole place pack.gtin (pack.serial ∷ []) l (status-serials pack.gtin pack (get_or whole place no_entry).item own ∙ ap (λ b. cond b (pack.serial ∷ []) []) (text-self pack.gtin)));
   }
     where
@@ -182,7 +152,4 @@ module _ (whole : List LogEntry) (place : ℕ) (pack : PackKey) (l : length whol
           let only = form.0 (pack_key pack.gtin serial) in
           subst (λ (l : Life). IsPackOf l new serial)
           (sym (untouched before (get_or whole place no_entry) (pack_key pack.gtin serial) only.0 (only.1 ∙ (λ i. text-self pack.gtin i && e i)) form.1)
-          ∙ ap (life_of (pack_key pack.gtin serial)) (sym (log-split whole place l))) (record {
-            kept = subst (IsKept (life_of (pack_key pack.gtin serial) before)) (sym (others serial e)) (are.packs serial).kept;
-            listed = if-some _ (are.packs serial).listed (λ batch. listed serial batch e);
-          })
+          ∙ ap (life_of (pack_key pack.gtin serial)) (sym (log-split whole place l))) (changed.others serial (life_of (pack_key pack.gtin serial) before) e (are.packs serial))

@@ -1,8 +1,8 @@
--- Uploads: which packs a log names, and how many of those that an upload names are new.
-use Rattle.mv_repository.proofs.Words.{◌≡◌, ◌+◌, ◌<◌, ◌∷◌, ◌++◌, ◌&&◌, ◌||◌, nat_tests, bytes_eq, ℕ, List, [], length, take, get_or, refl, sym, ◌∙◌, ap, arith, subst, append-nil, length-append, Bool, true, false, cond, not, Option, is_some, find, filter, map, or-false, flat_map-append, length-map, take_more, filter-append, list_any-append, is_member-filter, IsEquivalence, same_text, nat_list_eq_equiv, list_any, flat_map, option_map, distinct_count, is_member, Item, Carried, Upload, is_same_pack, pack_key, PackKey, LogEntry, uploaded_in, uploaded_packs, entries_before, Placed, put_in, ordered, has_pack, known_pack, IsUploadOf, is_before, place_of, comes_first, earlier_place, is_upload_of, track_of, list_any-IsPermutation}
+-- Uploads: which packs a log names, and how many of those that an upload names are new; and the counts of a log that its tables of keys give.
+use Rattle.mv_repository.proofs.Words.{◌≡◌, ◌+◌, ◌<◌, ◌∷◌, ◌++◌, ◌&&◌, ◌||◌, nat_tests, bytes_eq, ℕ, List, [], length, take, get_or, refl, sym, ◌∙◌, ap, arith, subst, append-nil, length-append, Bool, true, false, cond, not, Option, is_some, find, filter, map, or-false, flat_map-append, length-map, take_more, filter-append, list_any-append, is_member-filter, IsEquivalence, same_text, nat_list_eq_equiv, list_any, flat_map, option_map, distinct_count, is_member, Item, Carried, Upload, is_same_pack, pack_key, PackKey, LogEntry, uploaded_in, uploaded_packs, entries_before, Placed, put_in, ordered, has_pack, known_pack, IsUploadOf, is_before, place_of, comes_first, earlier_place, is_upload_of, track_of, list_any-IsPermutation, Some, length-keys_of, length-from_keys, is_some-lookup, IsDistinct, last_or, lookup, keys_of, is_same_batch, BatchKey, mastered_in, recalled_in, is_master, AreMastersOf, is_recall_of, Stops, AreStopsOf}
 use Rattle.mv_repository.proofs.BeforeLemmas.{find-below, known-before, any-find}
-use Rattle.mv_repository.proofs.KeptLemmas.{text-sym}
-use Rattle.mv_repository.proofs.OrderLemmas.{placed_after, put_in-permutes, find-true, ordered-below, still-stand}
+use Rattle.mv_repository.proofs.KeptLemmas.{text-sym, text-self, same_batch}
+use Rattle.mv_repository.proofs.OrderLemmas.{put_in-permutes, find-true, ordered-below, still-stand, by_entries, ordered-push}
 use Rattle.mv_repository.proofs.StateLemmas.{find-stand}
 use Rattle.mv_repository.proofs.TableLemmas.{longer, newest, newest-stands, find-some}
 use Rattle.mv_repository.proofs.UploadLemmas.{has, upload-has, has-own}
@@ -12,13 +12,9 @@ use Rattle.mv_repository.proofs.UploadLemmas.{has, upload-has, has-own}
 any-put_in : (f : Placed → Bool) (x : Placed) (xs : List Placed) → list_any f (put_in x xs) ≡ (f x || list_any f xs)
 any-put_in f x xs = sym (list_any-IsPermutation f (x ∷ xs) (put_in x xs) (put_in-permutes x xs))
 
-any-after : (f : Item → Bool) (xs : List Placed) (log : List LogEntry)
-    → list_any (λ placed. f placed.entry.item) (placed_after xs log) ≡ (list_any (λ placed. f placed.entry.item) xs || list_any (λ entry. f entry.item) log)
-any-after f xs [] = grind (arith, nat_tests)
-any-after f xs (entry ∷ log) = grind (arith, nat_tests, any-after f (put_in (record { place = length xs; entry = entry }) xs) log, any-put_in)
-
 pub any-ordered : (f : Item → Bool) (log : List LogEntry) → list_any (λ placed. f placed.entry.item) (ordered log) ≡ list_any (λ entry. f entry.item) log
-any-ordered f log = any-after f [] log
+any-ordered f log =
+    by_entries (λ log. list_any (λ placed. f placed.entry.item) (ordered log) ≡ list_any (λ entry. f entry.item) log) refl (λ log entry h. grind (arith, nat_tests, any-put_in, h, list_any-append, ordered-push)) log
 
 -- the keys that a log's items name
 pub any-flat : {K : Type 0} → (f : K → Bool) (names : Item → List K) (g : Item → Bool) → ((item : Item) → list_any f (names item) ≡ g item) → (log : List LogEntry)
@@ -125,3 +121,35 @@ named-longer log entry whole e = grind (arith, nat_tests, flat_map-append, lengt
 
 pub named-upload : (gtin : List ℕ) (serials : List (List ℕ)) (item : Item) → IsUploadOf item gtin serials → length (uploaded_in item) ≡ length serials
 named-upload gtin serials item u = grind (arith, nat_tests, length-map)
+
+mastered-is : (gtin : List ℕ) (item : Item) → list_any (bytes_eq gtin) (mastered_in item) ≡ is_master gtin item
+mastered-is gtin item = grind (arith, nat_tests, text-sym)
+
+recalled-is : (batch : BatchKey) (item : Item) → list_any (is_same_batch batch) (recalled_in item) ≡ is_recall_of batch item
+recalled-is batch item = grind (arith, nat_tests, text-sym)
+
+-- each key of one kind is in the table once, and in no other case
+counted-once : {K : Type 0} {eq : K → K → Bool} → IsEquivalence eq → {X : Type 0} (es : List (K × X)) (xs : List K) → IsDistinct eq (keys_of es)
+    → ((q : K) → is_some (lookup (eq q) es) ≡ is_member eq xs q) → length es ≡ distinct_count eq xs
+counted-once {K} {eq} laws es xs distinct same = grind (arith, nat_tests, is_some-lookup, length-from_keys, length-keys_of)
+
+last-found : (f : Placed → Bool) (last : Option Placed) (xs : List Placed) → is_some (last_or last (filter f xs)) ≡ (is_some last || list_any f xs)
+last-found f last [] = grind (arith, nat_tests)
+last-found f last (y ∷ ys) = grind (arith, nat_tests, last-found f last ys, last-found f (Some y) ys)
+
+pub count-products : (log : List LogEntry) (masters : List (List ℕ × ℕ)) → IsDistinct bytes_eq (keys_of masters) → AreMastersOf log masters → length masters ≡ distinct_count bytes_eq (flat_map (λ entry. mastered_in entry.item) log)
+count-products log masters distinct places =
+    counted-once nat_list_eq_equiv masters (flat_map (λ entry. mastered_in entry.item) log) distinct
+    (λ gtin. grind (arith, any-flat (bytes_eq gtin) mastered_in (is_master gtin) (mastered-is gtin) log, any-ordered (is_master gtin) log, last-found, places gtin, some-map))
+
+batch-equiv : IsEquivalence is_same_batch
+batch-equiv = record {
+  refl = λ x i. text-self x.gtin i && text-self x.batch i;
+  symm = λ x y i. text-sym x.gtin y.gtin i && text-sym x.batch y.batch i;
+  congr = λ x y z e. ap (λ (q : BatchKey). is_same_batch q z) (same_batch x y e);
+}
+
+pub count-recalled : (log : List LogEntry) (tables : Stops) → IsDistinct is_same_batch (keys_of tables.recalls.entries) → AreStopsOf log tables → length tables.recalls.entries ≡ distinct_count is_same_batch (flat_map (λ entry. recalled_in entry.item) log)
+count-recalled log tables distinct stops =
+    counted-once batch-equiv tables.recalls.entries (flat_map (λ entry. recalled_in entry.item) log) distinct
+    (λ batch. grind (arith, any-flat (is_same_batch batch) recalled_in (is_recall_of batch) (recalled-is batch) log, any-ordered (is_recall_of batch) log, found-any, stops.recalls.found batch))

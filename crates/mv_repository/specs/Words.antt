@@ -1,6 +1,6 @@
 -- The names of the library, and of the types of these crates, that the definitions cite, passed on from one
 -- place. Declares nothing.
-pub use Rattle.indexmap.specs.IndexMap.{insert_entry, spare as map_spare}
+pub use Rattle.indexmap.specs.IndexMap.{spare as map_spare}
 pub use Rattle.indexmap.specs.IndexSet.{insert_all, insert_key, spare as set_spare}
 pub use Rattle.mv_link.specs.declared.item.Item.TheVariants.{Carried, Receipt}
 pub use Rattle.mv_link.specs.declared.item.Item.{Item}
@@ -14,7 +14,7 @@ pub use Rattle.mv_message.specs.declared.standing.Standing.{Standing}
 pub use Rattle.mv_pack.specs.Keys.{batch_key, is_same_batch, is_same_pack, pack_key}
 pub use Rattle.mv_pack.specs.declared.key.BatchKey.{BatchKey}
 pub use Rattle.mv_pack.specs.declared.key.PackKey.{PackKey, PackKey as APackKey}
-pub use Rattle.mv_repository.specs.declared.blocks.Block.{Block}
+pub use Rattle.mv_repository.specs.declared.blocks.Block.{Block, Block as TheBlock}
 pub use Rattle.mv_repository.specs.declared.shelf.Counted.TheVariants.{Active, Every}
 pub use Rattle.mv_repository.specs.declared.shelf.Counted.{Counted}
 pub use Rattle.mv_repository.specs.declared.repository.Counts.{Counts}

@@ -2,18 +2,20 @@
 //! over. It does not go through each of them: of a block of them it is known what it leaves of a pack that comes to it
 //! active, and whose reverts stand in it, since a pack that another changed goes through as it comes.
 
-ghost use Rattle.std.specs.Prelude.{◌≡◌, ◌≤◌, ◌<◌, ◌+◌, ◌%◌};
-ghost use Rattle.mv_link.specs.PartySets.{has_party};
-ghost use Rattle.mv_repository.specs.Clauses.{AllByRecursion, AreBlocks, IfSome, IsCovered, IsCut, IsFront, IsSummary, List, drop, effect_in, entry_at, entry_in, fold, get_or, length, next_in, start_in, take, true, without, ℕ};
+ghost use Rattle.std.specs.Prelude.{◌≡◌, ◌≤◌, ◌<◌, ◌+◌};
+ghost use Rattle.mv_repository.specs.Clauses.{AllByRecursion, AreBlocks, IsCovered, IsCut, IsFront, IsSummary, List, TheBlock, effect_in, entry_at, entry_in, fold, get_or, length, next_in, take, without, ℕ};
 
 use crate::entry::sender_at;
 use crate::state::{Basis, is_active, standing_by};
 use crate::{Effect, LogEntry};
 use mv_link::{PARTIES_LIMIT, PartySet};
-use mv_message::Party;
 
 /// A block is made of at least so many statuses, and holds at most twice as many.
 const BLOCK: usize = 64;
+
+/// A repository takes any sender, and a set has so many parties: a sender stands in it by what is left of its number once it is
+/// divided by this.
+const SENDERS: u32 = PARTIES_LIMIT as u32;
 
 /// What some statuses of a pack do that stand one behind the other.
 #[derive(Clone, Copy)]
@@ -28,32 +30,15 @@ pub(crate) struct Block {
     reverters: PartySet,
 }
 
-/// The number by which a sender stands in a set: a repository takes any sender, and a set has 64 parties.
-fn number_of(sender: Party) -> Party
-    ensures { result ≡ sender % PARTIES_LIMIT }
-{
-    sender % PARTIES_LIMIT as u32
-}
-
-/// These senders, with that of the status at a place, where that is a revert.
-fn with_reverter(log: &[LogEntry], reverters: PartySet, place: u32) -> PartySet
-    ensures covered { IsCovered result (entry_at log.now place) }
-    ensures more { (other : ℕ) → has_party reverters (other % PARTIES_LIMIT) ≡ true → has_party result (other % PARTIES_LIMIT) ≡ true }
-{
-    if is_active(standing_by(log, place)) {
-        reverters.with(number_of(sender_at(log, place as usize)))
-    } else {
-        reverters
-    }
-}
-
 /// Whose reverts are among the statuses at these places.
 fn reverters_of(log: &[LogEntry], own: &[u32]) -> PartySet
     ensures { AllByRecursion (λ place. IsCovered result (entry_at log.now place)) own.now }
 {
     let mut reverters = PartySet::none();
     for place in own {
-        reverters = with_reverter(log, reverters, *place);
+        if is_active(standing_by(log, *place)) {
+            reverters = reverters.with(sender_at(log, *place as usize) % SENDERS);
+        }
     }
     reverters
 }
@@ -63,32 +48,30 @@ impl Block {
     fn of(basis: &Basis<'_>, by: u32, own: &[u32]) -> Block
         ensures count { result.count ≡ length own.now }
         ensures after { result.after ≡ fold (next_in basis.now) by own.now }
-        ensures summary { IsSummary (entry_in basis.now) (next_in basis.now) (start_in basis.now) result own.now }
+        ensures summary { IsSummary (entry_in basis.now) (next_in basis.now) basis.now.birth result own.now }
     {
-        let start = basis.start();
-        let of_active = basis.after(start, own);
-        Block {
+        let of_active = basis.after(basis.birth, own);
+        let mut block = Block {
             count: own.len(),
             of_active,
-            after: if by == start {
-                of_active
-            } else {
-                basis.after(by, own)
-            },
+            after: of_active,
             reverters: reverters_of(basis.log, own),
-        }
+        };
+        block.after = block.pass(basis, by, own);
+        block
     }
 
     /// The place of the entry by which a pack stands behind the statuses of the block that comes to them by another.
+    #[tactic(auto, using(crate::proofs::StateLemmas::own_passed, std::proofs::lemmas::Grind::common_steps))]
     fn pass(&self, basis: &Basis<'_>, by: u32, own: &[u32]) -> u32
-        requires { IsSummary (entry_in basis.now) (next_in basis.now) (start_in basis.now) self.now own.now }
+        requires { IsSummary (entry_in basis.now) (next_in basis.now) basis.now.birth self.now own.now }
         ensures { result ≡ fold (next_in basis.now) by own.now }
     {
-        if by == basis.start() {
+        if by == basis.birth {
             return self.of_active;
         }
         let is_changed = !is_active(standing_by(basis.log, by));
-        let sender = number_of(sender_at(basis.log, by as usize));
+        let sender = sender_at(basis.log, by as usize) % SENDERS;
         if is_changed && !self.reverters.has(sender) {
             return by;
         }
@@ -107,24 +90,24 @@ struct Cut {
     pub by: u32,
 }
 
-/// The blocks that end in front of a place among the statuses, or at it, and the block in which the place stands, if there is one with
-/// room for one status more.
-fn cut_at(basis: &Basis<'_>, blocks: &Vec<Block>, at: usize) -> (Cut, Option<Block>)
-    ensures at { result.0.start ≤ at }
-    ensures inside { IfSome result.1 (λ block. (result.0.number < length blocks.now.items) × (block ≡ get_or blocks.now.items result.0.number block)
-        × (at < result.0.start + block.count)) }
-    ensures cut { (own : List ℕ) → AreBlocks (entry_in basis.now) (next_in basis.now) (start_in basis.now) (start_in basis.now) blocks.now.items own
-        → IsCut (entry_in basis.now) (next_in basis.now) (start_in basis.now) blocks.now.items own result.0 }
+/// The blocks that end in front of a place among the statuses, or at it. The place stands in the next, if there is one.
+#[tactic(auto, using(crate::proofs::BlockLemmas::cut_next, std::proofs::lemmas::List::get_or_default, std::proofs::lemmas::Grind::common_steps))]
+fn cut_at(basis: &Basis<'_>, blocks: &Vec<Block>, at: usize) -> Cut
+    ensures at { result.start ≤ at }
+    ensures inside { result.number < length blocks.now.items → (block : TheBlock) → block ≡ get_or blocks.now.items result.number block
+        → at < result.start + block.count }
+    ensures cut { (own : List ℕ) → AreBlocks (entry_in basis.now) (next_in basis.now) basis.now.birth basis.now.birth blocks.now.items own
+        → IsCut (entry_in basis.now) (next_in basis.now) basis.now.birth blocks.now.items own result }
 {
     let mut cut = Cut {
         number: 0,
         start: 0,
-        by: basis.start(),
+        by: basis.birth,
     };
     while cut.number < blocks.len() {
         let block = blocks[cut.number];
         if at - cut.start < block.count {
-            return (cut, (block.count < 2 * BLOCK).then_some(block));
+            return cut;
         }
         cut = Cut {
             number: cut.number + 1,
@@ -132,7 +115,7 @@ fn cut_at(basis: &Basis<'_>, blocks: &Vec<Block>, at: usize) -> (Cut, Option<Blo
             by: block.after,
         };
     }
-    (cut, None)
+    cut
 }
 
 /// Of how many of these statuses the first block is made: of a few more than it must be, where a pack that comes to them
@@ -142,15 +125,10 @@ fn block_size(basis: &Basis<'_>, rest: &[u32]) -> usize
     ensures least { BLOCK ≤ result }
     ensures within { result ≤ length rest.now }
 {
-    let start = basis.start();
-    let (some, behind) = rest.split_at(BLOCK);
-    let mut by = basis.after(start, some);
+    let mut by = basis.after(basis.birth, &rest[..BLOCK]);
     let mut size = BLOCK;
-    for place in behind {
-        if by == start || size == BLOCK + BLOCK / 2 {
-            return size;
-        }
-        by = basis.next(by, *place).1;
+    while size < rest.len() && size < BLOCK + BLOCK / 2 && by != basis.birth {
+        by = basis.next(by, rest[size]).1;
         size += 1;
     }
     size
@@ -160,8 +138,8 @@ fn block_size(basis: &Basis<'_>, rest: &[u32]) -> usize
 /// behind all, where it comes to them by another. Where memory is refused for a block, the statuses from there on stand in
 /// none.
 fn extend(basis: &Basis<'_>, own: &[u32], blocks: &mut Vec<Block>, by: u32) -> u32
-    ensures blocks { (all : List ℕ) → IsFront (entry_in basis.now) (next_in basis.now) (start_in basis.now) blocks.old.items all by own.now
-        → AreBlocks (entry_in basis.now) (next_in basis.now) (start_in basis.now) (start_in basis.now) blocks.new.items all }
+    ensures blocks { (all : List ℕ) → IsFront (entry_in basis.now) (next_in basis.now) basis.now.birth blocks.old.items all by own.now
+        → AreBlocks (entry_in basis.now) (next_in basis.now) basis.now.birth basis.now.birth blocks.new.items all }
     ensures by { result ≡ fold (next_in basis.now) by own.now }
 {
     let mut last = by;
@@ -178,27 +156,36 @@ fn extend(basis: &Basis<'_>, own: &[u32], blocks: &mut Vec<Block>, by: u32) -> u
     basis.after(last, rest)
 }
 
-/// Takes the pack through the blocks from a number on, and through the statuses behind them, where it comes to them by an
-/// entry and came to them by another before, as far as that changes something. The place of the entry by which it stands
-/// behind all, where that by which it stood before is known.
+/// Works out again the block behind a cut, where the status at a place was put in, and takes the pack through the blocks and the
+/// statuses behind it, as far as that changes something. The place of the entry by which it stands behind all, where that by which
+/// it stood before is known. The clauses alone speak of the place.
+#[tactic(auto, using(crate::proofs::BlockLemmas::late_within, std::proofs::lemmas::Grind::common_steps))]
 fn pass_on(
     basis: &Basis<'_>,
     own: &[u32],
     blocks: &mut Vec<Block>,
+    at: usize,
     cut: Cut,
-    was: u32,
     standing: u32,
 ) -> u32
-    requires was { AreBlocks (entry_in basis.now) (next_in basis.now) (start_in basis.now) was (drop cut.number blocks.old.items) own.now }
-    requires standing { standing ≡ fold (next_in basis.now) was own.now }
-    ensures blocks { (all : List ℕ) → IsFront (entry_in basis.now) (next_in basis.now) (start_in basis.now) (take cut.number blocks.old.items) all cut.by own.now
-        → AreBlocks (entry_in basis.now) (next_in basis.now) (start_in basis.now) (start_in basis.now) blocks.new.items all }
-    ensures by { result ≡ fold (next_in basis.now) cut.by own.now }
+    requires within { at < length own.now }
+    requires number { cut.number < length blocks.old.items }
+    requires at { cut.start ≤ at }
+    requires inside { (block : TheBlock) → block ≡ get_or blocks.old.items cut.number block → at < cut.start + block.count }
+    requires cut { IsCut (entry_in basis.now) (next_in basis.now) basis.now.birth blocks.old.items (without own.now at) cut }
+    requires standing { standing ≡ fold (next_in basis.now) basis.now.birth (without own.now at) }
+    ensures blocks { AreBlocks (entry_in basis.now) (next_in basis.now) basis.now.birth basis.now.birth blocks.new.items own.now }
+    ensures by { result ≡ fold (next_in basis.now) basis.now.birth own.now }
 {
-    let mut before = was;
-    let mut last = cut.by;
-    let mut rest = own;
-    for number in cut.number..blocks.len() {
+    let old = blocks[cut.number];
+    let (_, rest) = own.split_at(cut.start);
+    let (some, behind) = rest.split_at(old.count + 1);
+    let new = Block::of(basis, cut.by, some);
+    blocks[cut.number] = new;
+    let mut before = old.after;
+    let mut last = new.after;
+    let mut rest = behind;
+    for number in cut.number + 1..blocks.len() {
         if last == before {
             return standing;
         }
@@ -222,32 +209,23 @@ pub(crate) fn put_late(
     standing: u32,
 ) -> (Effect, u32)
     requires within { at < length own.now }
-    requires blocks { AreBlocks (entry_in basis.now) (next_in basis.now) (start_in basis.now) (start_in basis.now) blocks.old.items (without own.now at) }
-    requires standing { standing ≡ fold (next_in basis.now) (start_in basis.now) (without own.now at) }
-    ensures effect { result.0 ≡ effect_in basis.now (fold (next_in basis.now) (start_in basis.now) (take at own.now)) (get_or own.now at 0) }
-    ensures blocks { AreBlocks (entry_in basis.now) (next_in basis.now) (start_in basis.now) (start_in basis.now) blocks.new.items own.now }
-    ensures by { result.1 ≡ fold (next_in basis.now) (start_in basis.now) own.now }
+    requires blocks { AreBlocks (entry_in basis.now) (next_in basis.now) basis.now.birth basis.now.birth blocks.old.items (without own.now at) }
+    requires standing { standing ≡ fold (next_in basis.now) basis.now.birth (without own.now at) }
+    ensures effect { result.0 ≡ effect_in basis.now (fold (next_in basis.now) basis.now.birth (take at own.now)) (get_or own.now at 0) }
+    ensures blocks { AreBlocks (entry_in basis.now) (next_in basis.now) basis.now.birth basis.now.birth blocks.new.items own.now }
+    ensures by { result.1 ≡ fold (next_in basis.now) basis.now.birth own.now }
 {
     let place = own[at];
     if at + 1 == own.len() {
         return basis.next(standing, place);
     }
-    let (cut, block) = cut_at(basis, blocks, at);
+    let cut = cut_at(basis, blocks, at);
     let before = basis.after(cut.by, &own[cut.start..at]);
     let (effect, _) = basis.next(before, place);
+    if cut.number < blocks.len() && blocks[cut.number].count < 2 * BLOCK {
+        return (effect, pass_on(basis, own, blocks, at, cut, standing));
+    }
+    blocks.truncate(cut.number);
     let (_, rest) = own.split_at(cut.start);
-    let Some(old) = block else {
-        blocks.truncate(cut.number);
-        return (effect, extend(basis, rest, blocks, cut.by));
-    };
-    let (some, behind) = rest.split_at(old.count + 1);
-    let block = Block::of(basis, cut.by, some);
-    blocks[cut.number] = block;
-    let next = Cut {
-        number: cut.number + 1,
-        start: cut.start + block.count,
-        by: block.after,
-    };
-    let by = pass_on(basis, behind, blocks, next, old.after, standing);
-    (effect, by)
+    (effect, extend(basis, rest, blocks, cut.by))
 }

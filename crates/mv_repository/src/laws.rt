@@ -1,6 +1,8 @@
 //! Laws over the definitions alone. They hold of every log, also of one in which a stamp has more than 32 bits, as no item that a
 //! repository applies has; only that receipts stand behind all else needs stamps of 32 bits.
 
+#![tactic(auto, using(crate::proofs::StateLemmas::change_names_status, crate::proofs::HistoryLemmas::laws))]
+
 ghost use Rattle.std.specs.Prelude.{◌≡◌};
 ghost use Rattle.mv_repository.specs.Clauses.{APackKey, AgreeOn, AnEntry, ChangeNamesStatus, HasDistinctStamps, HaveSameAbout, HaveSameEntries, HaveSameHistory, IsOrderOf, List, about, first_stops, first_upload, known_pack, ordered, pack_grown, statuses_of};
 

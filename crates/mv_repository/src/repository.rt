@@ -165,7 +165,11 @@ impl Repository {
     {
         match self.tables.shelves.get(gtin) {
             Some(shelf) => shelf.serials(self.log.as_slice()),
-            None => ProductSerials::none(),
+            None => ProductSerials {
+                log: &[],
+                names: &[],
+                slots: &[],
+            },
         }
     }
 

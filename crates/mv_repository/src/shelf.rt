@@ -1,9 +1,9 @@
 //! What is kept of each pack of one product, by serial numbers alone. This file knows no other product.
 
 ghost use Rattle.std.specs.Prelude.{◌≡◌, ◌<◌, ◌≤◌, ◌+◌, ◌==◌};
-ghost use Rattle.mv_repository.specs.Clauses.{AreShelfOf, AreSlots, AreStopsOf, IfOk, IsPut, IsRefreshed, IsTrack, IsUploadOf, OnErr, OnOk, Some, [], bare, comes_first, newest_effect, entry_at, get_or, is_status_of, is_stop, kept_by, kept_in, keys_of, length, may_stop, no_shelf, nothing_kept, serials_uploaded, shelf_by, slice_get, slots_counted, stopped_product, stops_in, take, true, ℕ};
+ghost use Rattle.mv_repository.specs.Clauses.{AreShelfOf, AreSlots, AreStopsOf, IfOk, IsPut, IsRefreshed, IsUploadOf, OnErr, OnOk, Some, [], bare, comes_first, newest_effect, entry_at, get_or, is_status_of, is_stop, kept_by, kept_in, keys_of, length, may_stop, no_shelf, nothing_kept, serials_uploaded, shelf_by, slice_get, slots_counted, stopped_product, stops_in, take, true, ℕ};
 
-use crate::entry::passes;
+use crate::entry::comes_first;
 use crate::listing::Listing;
 use crate::slots::{Slot, Slots};
 use crate::state::Newest;
@@ -109,10 +109,11 @@ impl Shelf {
         requires { AreSlots log.now self.now.slots.table }
         ensures { record { birth = result.0; statuses = result.1.now; by = result.2; blocks = [] } ≡ bare (kept_in (shelf_by log.now self.now) serial.now) }
     {
-        self.kept(self.slots.find(log, serial).slot())
+        self.kept(self.slots.find(log, serial).slot)
     }
 
     /// The serial numbers that have a slot, in the order in which each came first.
+    #[tactic(auto, using(crate::proofs::SlotLemmas::keys_keyed))]
     pub fn serials<'a>(&'a self, log: &'a [LogEntry]) -> ProductSerials<'a>
         requires { AreSlots log.now self.now.slots.table }
         ensures { result ≡ keys_of (shelf_by log.now self.now).slots }
@@ -145,7 +146,6 @@ impl Shelf {
         requires room { 0 < self.old.slots.room }
         requires named { slice_get (serials_uploaded (entry_at newest.now.log.now newest.now.place).entry.item) index ≡ Some serial.now }
         requires slots { AreSlots newest.now.log.now self.old.slots.table }
-        requires worked { IsTrack newest.now.log.now (stops_in newest.now.log.now newest.now.stops.now) gtin.now (kept_in (shelf_by newest.now.log.now self.old) serial.now) }
         ensures room { self.old.slots.room ≤ self.new.slots.room + 1 }
         ensures slots { AreSlots newest.now.log.now self.new.slots.table }
         ensures put { IsPut newest.now.log.now (stops_in newest.now.log.now newest.now.stops.now) gtin.now newest.now.place serial.now
@@ -153,22 +153,18 @@ impl Shelf {
         ensures first { result ≡ comes_first newest.now.log.now newest.now.place (kept_in (shelf_by newest.now.log.now self.old) serial.now).birth }
     {
         let spot = self.slots.find(newest.log, serial);
-        let is_first = match spot.slot() {
-            Some(Slot::Own(number)) => {
-                let track = &mut self.tracks[number as usize];
-                let is_first = track.add_upload(newest, gtin);
-                let place = is_first.then_some(newest.place);
-                self.listing.note(newest.log, place, number);
-                return is_first;
-            }
-            Some(Slot::Made { place, .. }) => passes(newest.log, newest.place, place),
-            None => true,
-        };
-        if is_first {
-            let place = newest.place;
-            self.slots.put(spot, Slot::Made { place, index });
+        let (birth, _, _) = self.kept(spot.slot);
+        if !comes_first(newest.log, newest.place, birth) {
+            return false;
         }
-        is_first
+        let Some(Slot::Own(number)) = spot.slot else {
+            let place = newest.place;
+            self.slots.put(spot, Slot::Made { index, place });
+            return true;
+        };
+        self.tracks[number as usize].add_upload(newest, gtin);
+        self.listing.note(newest.log, Some(newest.place), number);
+        true
     }
 
     /// Adds the newest entry, an upload; its effect where it stands. Where memory is refused nothing has changed; for more than 2^16
@@ -218,14 +214,10 @@ impl Shelf {
         ensures err { OnErr result (AreShelfOf (take newest.now.place newest.now.log.now) pack.now.gtin self.new) }
     {
         let spot = self.slots.find(newest.log, &pack.serial);
-        let birth = match spot.slot() {
-            Some(Slot::Own(number)) => {
-                let track = &mut self.tracks[number as usize];
-                return track.add_status(newest, pack);
-            }
-            Some(Slot::Made { place, .. }) => Some(place),
-            None => None,
-        };
+        if let Some(Slot::Own(number)) = spot.slot {
+            return self.tracks[number as usize].add_status(newest, pack);
+        }
+        let (birth, _, _) = self.kept(spot.slot);
         self.tracks.reserve(1)?;
         let mut track = Track::new(alloc, birth);
         let effect = track.add_status(newest, pack)?;

@@ -2,7 +2,7 @@
 //! the packs that have a track: so a pack that has no status takes some 20 bytes here.
 
 ghost use Rattle.std.specs.Prelude.{◌≡◌, ◌<◌, ◌≤◌, ◌+◌};
-ghost use Rattle.mv_repository.specs.Clauses.{AreSlots, AnEntry, IfOk, IfSome, List, Own, bytes_eq, get_or, keyed, keys_of, no_slot, no_slots, YieldsFirstRef, item_count, option_map, IsNamed, IsSpot, IsWritten, OnErr, OnOk, [], length, entry_at, serial_of, serials_uploaded, ℕ};
+ghost use Rattle.mv_repository.specs.Clauses.{AreSlots, AnEntry, IfOk, List, Own, bytes_eq, get_or, keyed, keys_of, no_slot, no_slots, YieldsFirstRef, item_count, IsNamed, IsSpot, IsWritten, Writes, OnErr, OnOk, [], length, entry_at, serial_of, serials_uploaded, ℕ};
 
 use crate::LogEntry;
 use crate::entry::message_at;
@@ -35,20 +35,10 @@ const _: () = prove!(size_of::<Slot>() <= 8);
 pub(crate) struct Spot {
     /// The hash of the serial number.
     pub hash: u32,
-    /// Its number and its slot, where it has one.
-    pub found: Option<(usize, Slot)>,
-}
-
-impl Spot {
+    /// The number of its slot; where it has none, the number that the next slot gets.
+    pub number: usize,
     /// Its slot, where it has one.
-    pub fn slot(&self) -> Option<Slot>
-        ensures { result ≡ option_map (λ found. found.1) self.now.found }
-    {
-        match self.found {
-            Some((_, slot)) => Some(slot),
-            None => None,
-        }
-    }
+    pub slot: Option<Slot>,
 }
 
 /// The serial numbers that the entry at a place uploads.
@@ -117,6 +107,7 @@ impl Slots {
     }
 
     /// The serial numbers of the packs, in the order in which each came first.
+    #[tactic(auto, using(crate::proofs::SlotLemmas::keys_keyed))]
     pub fn serials<'a>(&'a self, log: &'a [LogEntry]) -> ProductSerials<'a>
         requires { AreSlots log.now self.now.table }
         ensures { result ≡ keys_of (keyed log.now self.now.table.names self.now.table.slots) }
@@ -141,11 +132,11 @@ impl Slots {
             requires named { IsNamed log.now names.now (get_or slots.now number no_slot) }
             ensures { result ≡ bytes_eq (serial_of log.entry.now names.entry.now (get_or slots.entry.now number no_slot)) serial.entry.now }
         { serial_of(log, names, slots[number]) == serial };
-        let found = match self.index.find(hash, is_it) {
-            Some(number) => Some((number, slots[number])),
-            None => None,
+        let (number, slot) = match self.index.find(hash, is_it) {
+            Some(number) => (number, Some(slots[number])),
+            None => (slots.len(), None),
         };
-        Spot { hash, found }
+        Spot { hash, number, slot }
     }
 
     /// Gets room for more packs. Where memory is refused nothing has changed but the room.
@@ -160,25 +151,21 @@ impl Slots {
     /// Writes the slot of a pack where its serial number stands, or behind all.
     pub fn put(&mut self, spot: Spot, slot: Slot)
         requires room { 0 < self.old.room }
-        requires number { IfSome spot.found (λ found. found.0 < length self.old.table.slots) }
         ensures names { self.new.table.names ≡ self.old.table.names }
-        ensures written { (log : List AnEntry) (serial : List ℕ) → AreSlots log self.old.table → IsSpot log self.old.table serial spot
-            → IsNamed log self.old.table.names slot → serial_of log self.old.table.names slot ≡ serial → IsWritten log self.old.table self.new.table serial slot }
+        ensures written { Writes spot slot self.old.table self.new.table }
         ensures room { self.old.room ≤ self.new.room + 1 }
     {
-        match spot.found {
-            Some((number, _)) => self.slots[number] = slot,
-            None => {
-                self.index.push(spot.hash);
-                self.slots.push_reserved(slot);
-            }
+        if spot.number < self.slots.len() {
+            self.slots[spot.number] = slot;
+        } else {
+            self.index.push(spot.hash);
+            self.slots.push_reserved(slot);
         }
     }
 
     /// Keeps the serial number of a pack, and gives the pack the next number of a track. Where memory is refused nothing has changed but the
-    /// room; so beyond 2^32 such packs.
+    /// room. Beyond 2^32 such packs it is refused too.
     pub fn put_own(&mut self, spot: Spot, serial: &Serial) -> Result<u32, AllocError>
-        requires { IfSome spot.found (λ found. found.0 < length self.old.table.slots) }
         ensures number { IfOk result (λ number. number ≡ length self.old.table.names) }
         ensures names { OnOk result (length self.new.table.names ≡ length self.old.table.names + 1) }
         ensures written { OnOk result ((log : List AnEntry) → AreSlots log self.old.table → IsSpot log self.old.table serial.now spot
@@ -200,11 +187,11 @@ impl Slots {
 #[derive(Drop)]
 pub struct ProductSerials<'a> {
     /// The log, whose uploads name packs.
-    log: &'a [LogEntry],
+    pub(crate) log: &'a [LogEntry],
     /// The serial numbers of the packs that have a track.
-    names: &'a [Serial],
+    pub(crate) names: &'a [Serial],
     /// The slots of those that are still to come.
-    slots: &'a [Slot],
+    pub(crate) slots: &'a [Slot],
 }
 
 impl<'a> Model for ProductSerials<'a> {
@@ -215,19 +202,6 @@ impl<'a> Model for ProductSerials<'a> {
     ghost view = { λ it. map (serial_of it.log.now it.names.now) it.slots.now };
 
     ghost invariant = { λ it. AllByRecursion (IsNamed it.log.now it.names.now) it.slots.now };
-}
-
-impl<'a> ProductSerials<'a> {
-    /// No serial number.
-    pub(crate) fn none() -> ProductSerials<'a>
-        ensures { result ≡ [] }
-    {
-        ProductSerials {
-            log: &[],
-            names: &[],
-            slots: &[],
-        }
-    }
 }
 
 impl<'a> Iterator for ProductSerials<'a> {

@@ -2,7 +2,7 @@
 //! the pack stands then.
 
 ghost use Rattle.std.specs.Prelude.{◌≡◌, ◌+◌, length};
-ghost use Rattle.mv_repository.specs.Clauses.{change_in, effect_in, effect_on, entry_at, entry_in, fold, held_at, is_active, next_in, revert_effect, standing_at, standing_in, start_in, stops_of};
+ghost use Rattle.mv_repository.specs.Clauses.{change_in, effect_in, entry_at, fold, held_at, is_active, next_in, revert_effect, standing_at, standing_in};
 
 use crate::entry::{message_at, sender_at, stands_before};
 use crate::held::REVERT_SECONDS;
@@ -91,28 +91,20 @@ pub(crate) struct Basis<'a> {
     /// The product code of the pack.
     pub gtin: &'a Gtin,
     /// The place of the first upload that names the pack.
-    pub birth: Option<u32>,
+    pub birth: u32,
 }
 
 impl Basis<'_> {
-    /// The place of the entry by which the pack stands in front of all its statuses: 0 where no upload names it.
-    pub fn start(&self) -> u32
-        ensures { result ≡ start_in self.now }
-    {
-        self.birth.unwrap_or(0)
-    }
-
-    /// The effect of the status at a place on a pack that the upload at another made, where it stands by an entry. The batch
-    /// is looked up for a revert alone.
-    fn effect_on(&self, birth: u32, by: u32, place: u32) -> Effect
-        ensures { result ≡ effect_on (stops_of self.now) self.now.gtin.now
-            (Some (entry_in self.now birth)) (entry_in self.now by) (entry_in self.now place) }
+    /// The effect of the status at a place on the pack, where it stands by an entry. The batch is looked up for a revert alone.
+    fn effect_on(&self, by: u32, place: u32) -> Effect
+        ensures { result ≡ effect_in self.now by place }
     {
         let log = self.log;
-        if !stands_before(log, birth, place) {
+        if !stands_before(log, self.birth, place) {
             return Effect::Unknown;
         }
-        let Some(Message::Upload { batch, expiry, .. }) = message_at(log, birth as usize) else {
+        let Some(Message::Upload { batch, expiry, .. }) = message_at(log, self.birth as usize)
+        else {
             return Effect::Unknown;
         };
         let Some(Message::Status { to, user, at, .. }) = message_at(log, place as usize) else {
@@ -142,12 +134,9 @@ impl Basis<'_> {
         ensures effect { result.0 ≡ effect_in self.now by place }
         ensures by { result.1 ≡ next_in self.now by place }
     {
-        let Some(birth) = self.birth else {
-            return (Effect::Unknown, by);
-        };
-        let effect = self.effect_on(birth, by, place);
+        let effect = self.effect_on(by, place);
         match effect {
-            Effect::Done if is_active(standing_by(self.log, place)) => (effect, birth),
+            Effect::Done if is_active(standing_by(self.log, place)) => (effect, self.birth),
             Effect::Done => (effect, place),
             _ => (effect, by),
         }

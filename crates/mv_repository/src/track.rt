@@ -2,10 +2,10 @@
 //! which the pack stands behind them. This file knows no other pack.
 
 ghost use Rattle.std.specs.Prelude.{◌≡◌, ◌≤◌};
-ghost use Rattle.mv_repository.specs.Clauses.{AreStopsOf, Ascends, IfOk, IsAgain, IsKept, IsTrack, OnErr, OnOk, [], IsPartitionPoint, bare, comes_first, earlier_place, newest_effect, entry_at, false, is_status_of, length, life_of, map, not, passes, stops_in, take, true, unwrap_or};
+ghost use Rattle.mv_repository.specs.Clauses.{AreStopsOf, Ascends, IfOk, IsAgain, IsKept, OnErr, OnOk, Some, [], IsPartitionPoint, bare, newest_effect, entry_at, false, is_status_of, length, life_of, map, not, passes, stops_in, take, true, unwrap_or};
 
 use crate::blocks::{Block, put_late};
-use crate::entry::{comes_first, passes};
+use crate::entry::passes;
 use crate::state::{Basis, Newest};
 use crate::{Effect, LogEntry};
 use mv_pack::{Gtin, PackKey};
@@ -79,15 +79,18 @@ impl Track {
     {
         self.statuses.reserve(1)?;
         // All room is got: nothing fails from here on.
+        let at = place_for(newest.log, self.statuses.as_slice(), newest.place);
+        let Ok(()) = self.statuses.insert(at, newest.place) else {
+            unreachable!();
+        };
+        let Some(birth) = self.birth else {
+            return Ok(Effect::Unknown);
+        };
         let basis = Basis {
             log: newest.log,
             stops: newest.stops,
             gtin: &pack.gtin,
-            birth: self.birth,
-        };
-        let at = place_for(newest.log, self.statuses.as_slice(), newest.place);
-        let Ok(()) = self.statuses.insert(at, newest.place) else {
-            unreachable!();
+            birth,
         };
         let statuses = self.statuses.as_slice();
         let (effect, by) = put_late(&basis, statuses, &mut self.blocks, at, self.by);
@@ -95,31 +98,28 @@ impl Track {
         Ok(effect)
     }
 
-    /// Adds the newest entry, an upload that names the pack; whether it is the first such by stamp.
-    pub fn add_upload(&mut self, newest: &Newest<'_>, gtin: &Gtin) -> bool
-        requires { IsTrack newest.now.log.now (stops_in newest.now.log.now newest.now.stops.now) gtin.now self.old }
-        ensures again { IsAgain newest.now.log.now (stops_in newest.now.log.now newest.now.stops.now) gtin.now (earlier_place newest.now.log.now newest.now.place self.old.birth) self.old self.new }
-        ensures first { result ≡ comes_first newest.now.log.now newest.now.place self.old.birth }
+    /// Adds the newest entry, an upload that is the first by stamp of those that name the pack.
+    pub fn add_upload(&mut self, newest: &Newest<'_>, gtin: &Gtin)
+        ensures { IsAgain newest.now.log.now (stops_in newest.now.log.now newest.now.stops.now) gtin.now (Some newest.now.place) self.old self.new }
     {
-        if !comes_first(newest.log, newest.place, self.birth) {
-            return false;
-        }
         self.birth = Some(newest.place);
         self.refresh(newest, gtin);
-        true
     }
 
     /// Works the pack out again.
     pub fn refresh(&mut self, newest: &Newest<'_>, gtin: &Gtin)
         ensures { IsAgain newest.now.log.now (stops_in newest.now.log.now newest.now.stops.now) gtin.now self.old.birth self.old self.new }
     {
-        let basis = Basis {
-            log: newest.log,
-            stops: newest.stops,
-            gtin,
-            birth: self.birth,
+        self.by = match self.birth {
+            Some(birth) => Basis {
+                log: newest.log,
+                stops: newest.stops,
+                gtin,
+                birth,
+            }
+            .after(birth, self.statuses.as_slice()),
+            None => 0,
         };
-        self.by = basis.after(basis.start(), self.statuses.as_slice());
         self.blocks.clear();
     }
 }

@@ -1,9 +1,19 @@
--- Words that the command line takes, and what they ask for.
-use Rattle.mv_words.proofs.Names.{HasNoMinus, IsNumeral, List, None, OptionAsks, Some, Unsigned, WritesTurns, [], ap, arith, clap_on_literals, digits_value, false, inl, inr, refl, strip_byte, true, without_leading_plus, ℕ, ◌<◌, ◌∷◌, ◌≡◌}
+-- What the words of the command line ask for, and what a parse by it met.
+use Rattle.mv_words.proofs.Names.{App, ExplainAsks, ExplainsUnsignedError, FailsBy, HasNoMinus, HasUnsignedDigitsIfOk, IsNumeral, List, None, OptionAsks, ParsesUnsigned, ReadsOne, Result, Some, String, Unsigned, WritesTurns, [], all_of, ap, append-nil, append_assoc, arith, clap_on_literals, code_rule, codes, command_line, digits_value, false, fault_of, fold, inl, inr, is_simple_and_free, length, matched_of, new_app, one_of, one_text, option_map, raw_values, refl, rows_of, strip_byte, sym, true, usize_max, with_rule, without_leading_plus, ℕ, ◌++◌, ◌<◌, ◌∙◌, ◌∷◌, ◌≡◌}
 use Rattle.std.specs.Str.{bytes_eq}
 use Rattle.std.proofs.lemmas.Bool.{ne_eqb}
 use Rattle.clap.specs.ValueTests.{accepts}
 use Rattle.clap.proofs.ValueTestLemmas.{Accepts-accepts}
+use Rattle.std.specs.List.{AllByRecursion}
+use Rattle.clap.specs.Walk.{Text, Walk, nothing_held, positional, walk, walk_from, walked}
+use Rattle.clap.specs.Faults.{walk_fault}
+use Rattle.clap.specs.Kinds.{range_kinds, values_kinds}
+use Rattle.clap.specs.Simple.{Shape, built, built_leaf, entered, names_of}
+use Rattle.clap.proofs.FaultLemmas.{stopped_fault}
+use Rattle.clap.proofs.WalkLemmas.{one_text-rows, raw_values-rows, walk_stopped}
+use Rattle.std.specs.declared.option.Option.{Option}
+use Rattle.clap.specs.declared.parser.matches.Found.{Found}
+use Rattle.clap.specs.declared.error.Error.{Error}
 
 -- the option takes a number of turns
 turns_pass : (turns : ℕ) (text : List ℕ) → WritesTurns turns text → accepts false (Unsigned 0 4294967295) text ≡ true
@@ -28,3 +38,80 @@ option_asks program text option turns writes (inl two) =
     let plain = no_option text (number_plain text writes.0) in
     rw two (rw (plain.0, plain.1, plain.1, turns_pass turns text writes) refl, _, _, refl, (refl, text, rw (plain.0, plain.1, plain.1) refl, writes))
 option_asks program text option turns writes (inr one) = rw one (rw (turns_pass turns text writes) refl, _, _, refl, (refl, text, refl, writes))
+
+-- `explain`, as it is built
+abbrev explain_shape : Shape
+explain_shape = built_leaf (with_rule (new_app (codes "explain")) code_rule).top
+
+-- a walk over the words of `explain`, behind some of them
+abbrev over_words : List Text → Walk
+over_words words = record {
+  held = record { rows = []; pending = Some (codes "code", words); skip = 0 };
+  waiting = positional;
+  position = 1;
+  is_trailing = false;
+  stopped = None;
+}
+
+-- the words behind some of them lead on, without a fault
+other_words : (before words : List Text) → AllByRecursion HasNoMinus words
+    → (fold (walked explain_shape.rules []) (over_words before) words ≡ over_words (before ++ words))
+    × (walk_fault explain_shape [] (over_words before) words ≡ [])
+unfolding clap_on_literals
+other_words before [] all = (ap over_words (sym (append-nil before)), refl)
+other_words before (word ∷ words) (first, rest) =
+    let plain = no_option word first in
+    rw (plain.0, plain.1, plain.1) (rw append_assoc at (other_words (before ++ word ∷ []) words rest))
+
+-- each word is a value
+values_pass : (words : List Text) → values_kinds false String words ≡ []
+values_pass [] = refl
+values_pass (word ∷ words) = values_pass words
+
+-- all of them
+all_words : (word : Text) (words : List Text) → AllByRecursion HasNoMinus (word ∷ words)
+    → (walk explain_shape.rules [] nothing_held (word ∷ words) ≡ over_words (word ∷ words))
+    × (walk_fault explain_shape [] (walk_from nothing_held) (word ∷ words) ≡ [])
+unfolding clap_on_literals
+all_words word words (first, rest) =
+    let plain = no_option word first in
+    rw (plain.0, plain.1, plain.1) (other_words (word ∷ []) words rest)
+
+-- so these words ask for `explain`
+pub explain_asks : ExplainAsks
+unfolding clap_on_literals
+explain_asks program [] some few plain = absurd (omega (arith, some))
+explain_asks program (word ∷ words) some few plain =
+    let top = built command_line in
+    let found = sym (walk_stopped top.top.rules (names_of top) (walk_from nothing_held) (codes "explain") (word ∷ []) words) in
+    let faults = stopped_fault top.top (names_of top) (walk_from nothing_held) (codes "explain", word ∷ []) words in
+    let leaf = all_words word words plain in
+    let passes : range_kinds 1 usize_max (length (word ∷ words)) ≡ [] = grind (arith, some, few) in (
+      rw (found, faults, leaf.0, leaf.1) (rw (passes, values_pass (word ∷ words)) refl),
+      _,
+      _,
+      ap (λ (w : Walk). entered top w.stopped) found,
+      (refl, rw leaf.0 refl),
+    )
+
+-- a parse fails by the faults of the command line, which is a simple one, and none of its arguments has a rule on another
+pub fails_by : {T : Type 0} (line : App) (words : List (List ℕ)) (r : Result T Error) → line ≡ command_line
+    → (is_simple_and_free line ≡ true → FailsBy (fault_of line words) r) → FailsBy (fault_of command_line words) r
+unfolding clap_on_literals
+fails_by line words r is fails = (rw is at fails) refl
+
+-- the matches have the text that the rows have
+pub text_given : (found : Found) (id text : List ℕ) → one_of id (rows_of found) ≡ Some text → one_text found id ≡ Some text
+text_given found id text given = one_text-rows found id ∙ given
+
+-- and the texts
+pub texts_given : (found : Found) (id : List ℕ) (texts : List (List ℕ)) → all_of id (rows_of found) ≡ Some texts
+    → option_map raw_values (matched_of found id) ≡ Some texts
+texts_given found id texts given = raw_values-rows found id ∙ given
+
+-- a number of turns is read
+pub turns_read : (turns : ℕ) (text : List ℕ) (read : Option ℕ)
+    → ReadsOne (λ bs r. ParsesUnsigned 32 10 bs r × ExplainsUnsignedError 10 bs r × HasUnsignedDigitsIfOk bs r) text read
+    → WritesTurns turns text → read ≡ Some turns
+turns_read turns text (Some n) reads (numeral, value, fits) = ap Some (reads.0.1 ∙ value)
+turns_read turns text None (e, gives) (numeral, value, fits) = absurd (gives.0 (numeral, rw value fits))

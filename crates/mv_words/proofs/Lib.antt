@@ -1,4 +1,2 @@
 pub mod Names
-pub mod ParseLemmas
 pub mod AskLemmas
-pub mod ExplainLemmas

@@ -1,7 +1,7 @@
 -- What is kept of each pack of a product: a pack that has no status has a slot alone, and each other a track.
 use Rattle.std.specs.Prelude.{◌≡◌, ◌==◌, ◌||◌}
 use Rattle.mv_repository.specs.Words.{ℕ, List, [], get_or, Bool, true, false, Option, Some, None, IfSome, bytes_eq, keys_of, lookup, option_and_then, option_map_or, filter, is_some, not, HashSet, Counted, Active, Every, Slot, Made, Own, list_any, Upload, Item, Carried, LogEntry, insert_key, pack_key, unwrap_or, Stop, OfBatch, OfProduct}
-use Rattle.mv_repository.specs.inside.Track.{batch_at, comes_first, earlier_place, made_batch, Kept, Life, life_of, IsKept, IsTrack}
+use Rattle.mv_repository.specs.inside.Track.{batch_at, comes_first, made_batch, Kept, Life, life_of, IsKept, IsTrack}
 use Rattle.mv_repository.specs.Bearing.{FirstStops}
 use Rattle.mv_repository.specs.Repository.{serials_of}
 use Rattle.mv_repository.specs.inside.Slots.{AreSlots, RoomySlots, keyed, no_slots}
@@ -101,13 +101,17 @@ pub record IsAgain (log : List LogEntry) (stops : FirstStops) (gtin : List ℕ) 
   pub statuses : new.statuses ≡ old.statuses
   pub worked : IsTrack log stops gtin new
 
--- the newest entry, an upload that names a pack, was put into what is kept of the pack; other packs are kept as they were
-pub record IsPut (log : List LogEntry) (stops : FirstStops) (gtin : List ℕ) (place : ℕ) (serial : List ℕ) (old new : ShelfTable) : Type 0 where
+-- what is kept of one pack was written; each other that was kept as a log means it still is
+pub record IsChanged (serial : List ℕ) (old new : ShelfTable) : Type 0 where
   pub keys : keys_of new.slots ≡ insert_key bytes_eq (keys_of old.slots) serial
-  pub again : IsAgain log stops gtin (earlier_place log place (kept_in old serial).birth) (kept_in old serial) (kept_in new serial)
-  pub others : (other : List ℕ) → bytes_eq serial other ≡ false → kept_in new other ≡ kept_in old other
-  pub listed : (other batch : List ℕ) → is_listed_in old other batch ≡ true → is_listed_in new other batch ≡ true
-  pub made : comes_first log place (kept_in old serial).birth ≡ true → (batch : List ℕ) → batch_at log place ≡ Some batch → is_listed_in new serial batch ≡ true
+  pub others : (other : List ℕ) (life : Life) → bytes_eq serial other ≡ false → IsPackOf life old other → IsPackOf life new other
+
+-- the newest entry, an upload that names a pack, was put into what is kept of the pack, where it is the first such
+pub record IsPut (log : List LogEntry) (stops : FirstStops) (gtin : List ℕ) (place : ℕ) (serial : List ℕ) (old new : ShelfTable) : Type 0 where
+  pub changed : IsChanged serial old new
+  pub later : comes_first log place (kept_in old serial).birth ≡ false → new ≡ old
+  pub again : comes_first log place (kept_in old serial).birth ≡ true → IsAgain log stops gtin (Some place) (kept_in old serial) (kept_in new serial)
+  pub listed : comes_first log place (kept_in old serial).birth ≡ true → IfSome (batch_at log place) (λ batch. is_listed_in new serial batch ≡ true)
 
 -- a track was worked out again, or it stays
 abbrev pub IsRefreshed : List LogEntry → FirstStops → List ℕ → Bool → Kept → Kept → Type 0

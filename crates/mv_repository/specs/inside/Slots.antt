@@ -1,9 +1,9 @@
 -- What stands for each pack of a product. Its serial number stands elsewhere: in the upload that made it, or among the names of the packs
 -- that have a track.
-use Rattle.std.specs.Prelude.{◌≡◌, ◌<◌, ◌∷◌}
+use Rattle.std.specs.Prelude.{◌≡◌, ◌<◌, ◌≤◌, if◌then◌else◌}
 use Rattle.mv_index.specs.Hashes.{short_hash}
-use Rattle.mv_pack.specs.Code.{filled_up}
-use Rattle.mv_repository.specs.Words.{ℕ, List, [], length, get_or, drop, insert_entry, take, map, bytes_eq, keys_of, lookup, option_map, AllByRecursion, IsDistinct, IfSome, Upload, Item, Carried, LogEntry, Slot, Made, Own}
+use Rattle.mv_pack.specs.Code.{code_pieces}
+use Rattle.mv_repository.specs.Words.{ℕ, List, [], length, get_or, insert_key, map, bytes_eq, keys_of, lookup, Some, None, AllByRecursion, IsDistinct, Upload, Item, Carried, LogEntry, Slot, Made, Own}
 use Rattle.mv_repository.specs.Bearing.{entry_at}
 use Rattle.mv_repository.specs.declared.slots.Spot.{Spot}
 
@@ -32,7 +32,7 @@ keyed log names slots = map (λ slot. (serial_of log names slot, slot)) slots
 
 -- the hash of a serial number
 abbrev pub serial_hash : List ℕ → ℕ
-serial_hash serial = short_hash (take 16 (filled_up serial) ∷ drop 16 (filled_up serial) ∷ [])
+serial_hash serial = short_hash (code_pieces serial)
 
 -- what is kept of slots: each has the hash of its serial number; and the serial numbers of the packs that have a track
 pub record SlotTable : Type 0 where
@@ -58,10 +58,21 @@ pub record AreSlots (log : List LogEntry) (table : SlotTable) : Type 0 where
 -- where a serial number stands among the slots, or would stand
 pub record IsSpot (log : List LogEntry) (table : SlotTable) (serial : List ℕ) (spot : Spot) : Type 0 where
   pub hash : spot.hash ≡ serial_hash serial
-  pub slot : option_map (λ found. found.1) spot.found ≡ lookup (bytes_eq serial) (keyed log table.names table.slots)
-  pub number : IfSome spot.found (λ found. (found.0 < length table.slots) × (serial_of log table.names (get_or table.slots found.0 no_slot) ≡ serial))
+  pub slot : spot.slot ≡ lookup (bytes_eq serial) (keyed log table.names table.slots)
+  pub number : spot.number < length table.slots → serial_of log table.names (get_or table.slots spot.number no_slot) ≡ serial
+  pub none : length table.slots ≤ spot.number → spot.slot ≡ None
+
+-- a slot is under a serial number, and each other where it was
+pub record IsEntered (old new : List (List ℕ × Slot)) (serial : List ℕ) (slot : Slot) : Type 0 where
+  pub keys : keys_of new ≡ insert_key bytes_eq (keys_of old) serial
+  pub found : (other : List ℕ) → lookup (bytes_eq other) new ≡ (if bytes_eq serial other then Some slot else lookup (bytes_eq other) old)
 
 -- a slot was written under a serial number
-pub record IsWritten (log : List LogEntry) (old new : SlotTable) (serial : List ℕ) (slot : Slot) : Type 0 where
-  pub are : AreSlots log new
-  pub entries : keyed log new.names new.slots ≡ insert_entry bytes_eq (keyed log old.names old.slots) serial slot
+abbrev pub IsWritten : List LogEntry → SlotTable → SlotTable → List ℕ → Slot → Type 0
+IsWritten log old new serial slot = AreSlots log new × IsEntered (keyed log old.names old.slots) (keyed log new.names new.slots) serial slot
+
+-- a slot is written where a serial number stands
+abbrev pub Writes : Spot → Slot → SlotTable → SlotTable → Type 0
+Writes spot slot old new =
+    (log : List LogEntry) (serial : List ℕ) → AreSlots log old → IsSpot log old serial spot → IsNamed log old.names slot → serial_of log old.names slot ≡ serial
+    → IsWritten log old new serial slot

@@ -2,7 +2,7 @@
 -- each of its statuses does, the entry by which it stands behind them, and what many of them do that stand one behind the other;
 -- and its history.
 use Rattle.std.specs.Prelude.{◌≡◌, if◌then◌else◌, ◌≤◌, ◌+◌, ◌%◌, ◌∷◌, ◌++◌}
-use Rattle.mv_repository.specs.Words.{ℕ, List, find, Bool, true, Option, Some, bytes_eq, flat_map, lookup, keys_of, option_map, option_map_or, insert_all, insert_key, Item, LogEntry, Stop, Stops, OfBatch, OfProduct, is_same_batch, [], take, None, option_and_then, BatchKey, Standing, Message, Status, Effect, BatchStanding, unwrap_or, Held, batch_key, ⊤, length, drop, AllByRecursion, PARTIES_LIMIT, PartySet, map, fold, PackKey, Block, IfSome, slice_get}
+use Rattle.mv_repository.specs.Words.{ℕ, List, find, Bool, true, Option, Some, bytes_eq, flat_map, lookup, keys_of, option_map, option_map_or, insert_all, insert_key, Item, LogEntry, Stop, Stops, OfBatch, OfProduct, is_same_batch, [], take, None, option_and_then, BatchKey, Standing, Message, Status, Effect, BatchStanding, Held, batch_key, ⊤, length, drop, AllByRecursion, PARTIES_LIMIT, PartySet, map, fold, PackKey, Block, IfSome, slice_get}
 use Rattle.mv_repository.specs.Order.{Placed, passes, ordered, stands_before}
 use Rattle.mv_repository.specs.Pack.{is_recall_of, is_withdrawal_of, effect_of, KnownPack, KnownChange, is_active, is_done, change_effect, held_of}
 use Rattle.mv_repository.specs.Repository.{recalled_in}
@@ -111,9 +111,8 @@ effect_from standing sender _ gtin held = effects.Noted
 
 -- the effect of a status on a pack of a product, by its first upload and by the entry by which it stands; none stands
 -- before that upload
-abbrev pub effect_on : FirstStops → List ℕ → Option Placed → Placed → Placed → Effect
-effect_on stops gtin None by placed = effects.Unknown
-effect_on stops gtin (Some birth) by placed =
+abbrev pub effect_on : FirstStops → List ℕ → Placed → Placed → Placed → Effect
+effect_on stops gtin birth by placed =
     if stands_before birth placed
     then option_map_or (effect_from (standing_at stops placed) placed.entry.sender (message_in placed.entry.item) gtin) (known_at birth by) effects.Unknown
     else effects.Unknown
@@ -126,30 +125,26 @@ newest_effect log place = effect_of (take place log) (entry_at log place).entry
 abbrev pub next_by : FirstStops → List ℕ → Option Placed → Placed → Placed → Placed
 next_by stops gtin None by placed = by
 next_by stops gtin (Some birth) by placed =
-    if is_done (effect_on stops gtin (Some birth) by placed)
+    if is_done (effect_on stops gtin birth by placed)
     then (if is_active (standing_in placed.entry.item) then birth else placed)
     else by
 
 -- the same by places in a log
-abbrev pub next_place : List LogEntry → FirstStops → List ℕ → Option ℕ → ℕ → ℕ → ℕ
+abbrev pub next_place : List LogEntry → FirstStops → List ℕ → ℕ → ℕ → ℕ → ℕ
 next_place log stops gtin birth by place =
-    (next_by stops gtin (option_map (entry_at log) birth) (entry_at log by) (entry_at log place)).place
+    (next_by stops gtin (Some (entry_at log birth)) (entry_at log by) (entry_at log place)).place
 
--- by what a pack is worked out: the first stops, the entry at a place, and by which entry the pack stands in front of its
--- statuses, and behind one of them
+-- by what a pack is worked out: the first stops, and the entry at a place
 abbrev pub stops_of : Basis → FirstStops
 stops_of basis = stops_in basis.log.now basis.stops.now
 
 abbrev pub entry_in : Basis → ℕ → Placed
 entry_in basis = entry_at basis.log.now
 
-abbrev pub start_in : Basis → ℕ
-start_in basis = unwrap_or basis.birth 0
-
--- the effect of the status at a place, where the pack stands by an entry
+-- the effect of the status at a place, where the pack stands by an entry; and by which entry the pack stands then
 abbrev pub effect_in : Basis → ℕ → ℕ → Effect
 effect_in basis by place =
-    effect_on (stops_of basis) basis.gtin.now (option_map (entry_in basis) basis.birth) (entry_in basis by) (entry_in basis place)
+    effect_on (stops_of basis) basis.gtin.now (entry_in basis basis.birth) (entry_in basis by) (entry_in basis place)
 
 abbrev pub next_in : Basis → ℕ → ℕ → ℕ
 next_in basis = next_place basis.log.now (stops_of basis) basis.gtin.now basis.birth
@@ -203,10 +198,6 @@ life_of pack log = record {
   next = next_by (first_stops (ordered log)) pack.gtin (first_upload pack (ordered log));
 }
 
--- the entry by which a pack stands in front of its statuses: its upload
-abbrev pub start_of : Life → Placed
-start_of life = unwrap_or life.birth (entry_at [] 0)
-
 -- what is kept of a pack, by places in the log
 pub record Kept : Type 0 where
   pub birth : Option ℕ
@@ -223,7 +214,7 @@ abbrev pub kept_of : Life → Kept
 kept_of life = record {
   birth = option_map place_of life.birth;
   statuses = map place_of life.statuses;
-  by = (fold life.next (start_of life) life.statuses).place;
+  by = option_map_or (λ birth. (fold life.next birth life.statuses).place) life.birth 0;
   blocks = [];
 }
 
@@ -233,13 +224,12 @@ track_of pack log = kept_of (life_of pack log)
 -- a pack is kept as a log means it, and its blocks are those of its first statuses
 pub record IsKept (life : Life) (kept : Kept) : Type 0 where
   pub bare : bare kept ≡ kept_of life
-  pub blocks : AreBlocks (λ placed. placed) life.next (start_of life) (start_of life) kept.blocks life.statuses
+  pub blocks : IfSome life.birth (λ birth. AreBlocks (λ placed. placed) life.next birth birth kept.blocks life.statuses)
 
 -- a pack is worked out, by places in a log
 pub record IsTrack (log : List LogEntry) (stops : FirstStops) (gtin : List ℕ) (kept : Kept) : Type 0 where
-  pub by : kept.by ≡ fold (next_place log stops gtin kept.birth) (unwrap_or kept.birth 0) kept.statuses
-  pub blocks : AreBlocks (entry_at log) (next_place log stops gtin kept.birth) (unwrap_or kept.birth 0) (unwrap_or kept.birth 0)
-      kept.blocks kept.statuses
+  pub by : kept.by ≡ option_map_or (λ birth. fold (next_place log stops gtin birth) birth kept.statuses) kept.birth 0
+  pub blocks : IfSome kept.birth (λ birth. AreBlocks (entry_at log) (next_place log stops gtin birth) birth birth kept.blocks kept.statuses)
 
 -- an entry is the one at its place in a log
 abbrev pub IsAt : List LogEntry → Placed → Type 0

@@ -1,19 +1,13 @@
 use Rattle.mv_pack.proofs.Words.{arith, get_or, is_digit}
-use Rattle.mv_pack.proofs.GtinLemmas.{weighted_sum_is_check_sum, digit_bounds, weight_times_digit, weighted_sum-drop}
+use Rattle.mv_pack.proofs.GtinLemmas.{digit_bounds, weight_times_digit, weighted_sum-drop}
 use Rattle.mv_pack.proofs.TextLemmas.{passes_at}
 use Rattle.mv_pack.proofs.gtin.check_sum.Goals as goal
-
--- the weights from the first digit on give the whole sum
-pub loop-byte-init : goal.loop-byte-init
-loop-byte-init c =
-    let whole = weighted_sum_is_check_sum c.args.digits.now in
-    record { rest = omega arith; positive = omega arith; weight = omega arith; bound = omega arith }
 
 -- one digit more, with its weight
 pub loop-byte-preserved : goal.loop-byte-preserved
 loop-byte-preserved c =
     let x = get_or c.args.digits.now c.loop-byte.byte-index 0 in
-    let here = digit_bounds x (passes_at is_digit c.args.digits.now c.loop-byte.byte-index 0 c.requires.digits c.loop-byte-test.true) in
+    let digit = passes_at is_digit c.args.digits.now c.loop-byte.byte-index 0 c.requires.digits c.loop-byte-test.true in
     let step = weighted_sum-drop c.loop-byte.weight c.args.digits.now c.loop-byte.byte-index c.loop-byte-test.true in
-    let most = weight_times_digit c.loop-byte.weight x c.loop-byte.invariant.weight here.1 in
+    let most = weight_times_digit c.loop-byte.weight x c.loop-byte.invariant.weight (digit_bounds x digit).1 in
     record { rest = omega arith; positive = omega arith; weight = omega arith; bound = omega arith }

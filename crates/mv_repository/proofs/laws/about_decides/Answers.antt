@@ -1,4 +1,4 @@
-use Rattle.mv_repository.proofs.AboutLemmas.{agree}
+use Rattle.mv_repository.proofs.HistoryLemmas.{agree}
 use Rattle.mv_repository.proofs.laws.about_decides.Goals as goal
 
 pub returns : goal.returns

@@ -1,6 +1,5 @@
 -- A late master leaves the table; any other takes the place of its code.
-use Rattle.std.specs.Prelude.{◌≡◌}
-use Rattle.mv_repository.proofs.Lemmas.{bytes_eq, rules, false, lookup, comes_late, masters-late-at, masters-latest-at, arith}
+use Rattle.mv_repository.proofs.Lemmas.{◌≡◌, bytes_eq, rules, false, lookup, comes_late, masters-late-at, masters-latest-at, arith}
 use Rattle.mv_repository.proofs.tables.add_master.Goals as goal
 
 pub returns-else-not-matches-clause-ok : goal.returns-else-not-matches-clause-ok

@@ -1,4 +1,4 @@
-use Rattle.mv_words.proofs.ExplainLemmas.{explain_asks}
+use Rattle.mv_words.proofs.AskLemmas.{explain_asks}
 use Rattle.mv_words.proofs.laws.explain_named.Goals as goal
 
 pub returns : goal.returns

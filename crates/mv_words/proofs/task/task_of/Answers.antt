@@ -1,5 +1,5 @@
 use Rattle.std.proofs.Common.{arith}
-use Rattle.mv_words.proofs.ParseLemmas.{fails_by}
+use Rattle.mv_words.proofs.AskLemmas.{fails_by}
 use Rattle.mv_words.proofs.task.task_of.Goals as goal
 
 -- the command line is built as it is defined, so it takes what asks for a task

@@ -1,4 +1,4 @@
-use Rattle.std.proofs.Common.{refl}
+use Rattle.std.proofs.Common.{arith, refl}
 use Rattle.mv_message.proofs.message.Message.copy.Goals as goal
 
 -- the parts that were copied, one after another, are those of the message
@@ -10,10 +10,7 @@ pub returns-in_ok-user-in-Status-clause-copy : goal.returns-in_ok-user-in-Status
 returns-in_ok-user-in-Status-clause-copy c = rw c.in-Status.is (rw c.copy-in-Status-2.ensures (rw c.in_ok-user-in-Status.ensures refl))
 
 pub returns-in_ok-after-in-Repack-clause-copy : goal.returns-in_ok-after-in-Repack-clause-copy
-returns-in_ok-after-in-Repack-clause-copy c =
-    let before = c.in_ok-before-in-Repack.ensures in
-    let after = c.in_ok-after-in-Repack.ensures in
-    rw c.in-Repack.is (rw before.0 (rw before.1 (rw after.0 (rw after.1 (rw c.get-in-Repack.ensures (rw c.get-in-Repack-2.ensures refl))))))
+returns-in_ok-after-in-Repack-clause-copy c = grind (arith, c.in-Repack.is, c.in_ok-before-in-Repack.ensures, c.in_ok-after-in-Repack.ensures)
 
 pub returns-in-Answer-clause-copy : goal.returns-in-Answer-clause-copy
 returns-in-Answer-clause-copy c = rw c.in-Answer.is (rw c.copy-in-Answer.ensures (rw c.copy-in-Answer-2.ensures refl))

@@ -1,12 +1,10 @@
-use Rattle.std.proofs.Common.{rules, ◌∙◌, ◌-◌, get_or, length, ap, arith}
+use Rattle.std.proofs.Common.{arith}
 use Rattle.mv_pack.proofs.GtinLemmas.{all_values}
 use Rattle.mv_pack.proofs.gtin.Gtin.digits.Goals as goal
 
 -- each number is that of the byte at its place
 pub returns : goal.returns
 returns c =
-    let same = ap length c.self.view_is in
-    let long = c.map.ensures.items.long in
-    all_values c.args.self.now c.map.result (omega arith)
-    (λ k below. let called = c.map.ensures.items.at k 0 0 (omega arith) in
-    search rules ∙ ap (λ bytes. get_or bytes k 0 - 48) c.self.view_is)
+    let items = c.map.ensures.items in
+    all_values c.args.self.now c.map.result (grind (arith, c.self.view_is, items.long))
+    (λ k below. grind (arith, c.self.view_is, items.at k 0 0, items.long))

@@ -1,5 +1,4 @@
-use Rattle.std.specs.Prelude.{◌≡◌, ◌≤◌}
-use Rattle.mv_repository.proofs.Lemmas.{filter, has_reply, length, not, take}
+use Rattle.mv_repository.proofs.Lemmas.{◌≡◌, ◌≤◌, filter, has_reply, length, not, take}
 use Rattle.mv_repository.proofs.inquiries.Inquiries.left_count.Given as goal
 
 -- those of the parties so far that have not answered are counted

@@ -1,9 +1,9 @@
-use Rattle.mv_repository.proofs.Lemmas.{arith, rules, refl, known_stays, tells_nothing, receipt_noted, answer_noted}
+use Rattle.mv_repository.proofs.Lemmas.{arith, rules, refl, known_stays, receipt_noted, answer_noted}
 use Rattle.mv_repository.proofs.inquiries.Inquiries.note.Goals as goal
 
 -- the item tells of no query of the party
 pub returns-in_default : goal.returns-in_default
-returns-in_default c log = search (rules, known_stays, tells_nothing)
+returns-in_default c log = search (rules, known_stays)
 
 -- the item is the receipt of a query of the party
 pub returns-in_default-item : goal.returns-in_default-item

@@ -1,6 +1,5 @@
 -- All have answered.
-use Rattle.std.specs.Prelude.{◌≡◌}
-use Rattle.mv_repository.proofs.Lemmas.{rules, ap, ◌∙◌, Some, not, filter, length, has_reply, inquiry_in, Decided, verdict_known}
+use Rattle.mv_repository.proofs.Lemmas.{◌≡◌, rules, ap, ◌∙◌, Some, not, filter, length, has_reply, inquiry_in, Decided, verdict_known}
 use Rattle.mv_repository.proofs.inquiries.Inquiries.verdict.Goals as goal
 
 pub returns-then-left-eq0 : goal.returns-then-left-eq0

@@ -1,6 +1,5 @@
 -- The entry that is added stands behind the log that was.
-use Rattle.std.specs.Prelude.{◌≡◌}
-use Rattle.mv_repository.proofs.Lemmas.{ℕ, List, LogEntry, arith, common_steps, effect_of, get_or, get_or_push, length, longer, nat_tests, no_entry, take, take_at}
+use Rattle.mv_repository.proofs.Lemmas.{◌≡◌, ℕ, List, LogEntry, arith, common_steps, effect_of, get_or, get_or_push, length, longer, nat_tests, no_entry, take, take_at}
 use Rattle.mv_repository.proofs.repository.Repository.apply.Goals as goal
 
 effect-newest : (old whole : List LogEntry) (entry : LogEntry) (place : ℕ) → whole ≡ longer old entry → place ≡ length old
@@ -9,15 +8,3 @@ effect-newest old whole entry place e n = grind (arith, nat_tests, take_at, get_
 
 pub returns-in-Ok-add-clause-effect : goal.returns-in-Ok-add-clause-effect
 returns-in-Ok-add-clause-effect c = grind (arith, common_steps, effect-newest)
-
-pub returns-in-Err-clause-err : goal.returns-in-Err-clause-err
-returns-in-Err-clause-err c = grind (arith, common_steps)
-
-pub add-requires-clause-tables : goal.add-requires-clause-tables
-add-requires-clause-tables c = grind (arith, common_steps)
-
-pub invariant_of-self-in-Err : goal.invariant_of-self-in-Err
-invariant_of-self-in-Err c = grind (arith, common_steps)
-
-pub invariant_of-self-in-Err-2 : goal.invariant_of-self-in-Err-2
-invariant_of-self-in-Err-2 c = grind (arith, common_steps)

@@ -1,6 +1,5 @@
 -- Each table has the things of its kind once.
-use Rattle.std.specs.Prelude.{◌≡◌}
-use Rattle.mv_repository.proofs.Lemmas.{◌∙◌, rules, length, active-all, held-all, count-products, count-recalled}
+use Rattle.mv_repository.proofs.Lemmas.{◌≡◌, ◌∙◌, rules, length, active-all, held-all, count-products, count-recalled}
 use Rattle.mv_repository.proofs.repository.Repository.counts.Goals as goal
 
 pub returns : goal.returns

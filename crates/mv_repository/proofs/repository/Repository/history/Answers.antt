@@ -1,6 +1,5 @@
 -- Each place is that of the first of its kind.
-use Rattle.std.specs.Prelude.{◌≡◌}
-use Rattle.mv_repository.proofs.Lemmas.{List, LogEntry, ap, sym, subst, ◌∙◌, AreAt, AreStopsOf, history_of, pack_state, rules, track_of, history-at, lent-places}
+use Rattle.mv_repository.proofs.Lemmas.{◌≡◌, List, LogEntry, ap, sym, subst, ◌∙◌, AreAt, AreStopsOf, history_of, pack_state, rules, track_of, history-at, lent-places}
 use Rattle.mv_repository.proofs.repository.Repository.history.Goals as goal
 
 pub returns : goal.returns

@@ -1,6 +1,5 @@
 -- What is kept of a pack is what the log means, on the shelf of its product if it has one.
-use Rattle.std.specs.Prelude.{◌≡◌}
-use Rattle.mv_repository.proofs.Lemmas.{AreShelfOf, AreSlots, List, LogEntry, None, Some, kept-found, rules, shelf_of, subst, sym}
+use Rattle.mv_repository.proofs.Lemmas.{◌≡◌, AreShelfOf, AreSlots, List, LogEntry, arith, common_steps, rules, shelf_of, subst, sym}
 use Rattle.mv_repository.proofs.repository.Repository.kept.Goals as goal
 
 pub parts-requires : goal.parts-requires
@@ -11,7 +10,7 @@ parts-requires c =
     (subst (AreShelfOf c.self.inside.log.items c.args.key.now.gtin) shelf (c.self.invariant.0.shelves c.args.key.now.gtin)).slots
 
 pub returns-in-Some : goal.returns-in-Some
-returns-in-Some c = search (rules, kept-found (c.self.inside.log.items) (c.self.inside.tables.shelves.entries) c.args.key.now (Some c.in-Some.shelf.now) (search rules) (c.self.invariant.0.shelves c.args.key.now.gtin))
+returns-in-Some c = grind (arith, common_steps, (c.self.invariant.0.shelves c.args.key.now.gtin).shelf.packs c.args.key.now.serial)
 
 pub returns-in-None : goal.returns-in-None
-returns-in-None c = search (rules, kept-found (c.self.inside.log.items) (c.self.inside.tables.shelves.entries) c.args.key.now None (search rules) (c.self.invariant.0.shelves c.args.key.now.gtin))
+returns-in-None c = grind (arith, common_steps, (c.self.invariant.0.shelves c.args.key.now.gtin).shelf.packs c.args.key.now.serial)

@@ -1,6 +1,5 @@
 -- The serial numbers of a product have the slots of its shelf, if it has one.
-use Rattle.std.specs.Prelude.{◌≡◌}
-use Rattle.mv_repository.proofs.Lemmas.{AreShelfOf, AreSlots, List, LogEntry, arith, common_steps, rules, shelf_of, subst, sym}
+use Rattle.mv_repository.proofs.Lemmas.{◌≡◌, AreShelfOf, AreSlots, List, LogEntry, arith, common_steps, rules, shelf_of, subst, sym}
 use Rattle.mv_repository.proofs.repository.Repository.serials.Goals as goal
 
 pub serials-requires : goal.serials-requires

@@ -1,16 +1,13 @@
 -- One serial number more.
-use Rattle.std.specs.Prelude.{◌≡◌, ◌≤◌, ◌+◌, ◌∷◌}
-use Rattle.mv_repository.proofs.Lemmas.{AreShelfOf, ArePacksOf, Bool, Kept, List, ShelfParts, Some, [], ap, arith, bytes_eq, comes_first, cond, fold, fold-append, get_or, get_or_default, insert_key, kept_in, log-length, log-split, nat_tests, new-more, no_entry, refl, rules, same-shelf, serials-at, serials_of, shelf-longer, shelf_by, slice_get, slice_get-get_or, subst, sym, take, take_all, take_more, text-self, upload-adds, upload-all, upload-names, upload-serials, upload-worked, ℕ, ◌∙◌}
+use Rattle.mv_repository.proofs.Lemmas.{◌≡◌, ◌≤◌, ◌+◌, ◌∷◌, AreSlots, ArePacksOf, Bool, IsShelfOf, SlotTable, keyed, shelf-seen, Kept, List, Some, [], ap, arith, bytes_eq, comes_first, cond, fold, fold-append, get_or, get_or_default, insert_key, kept_in, log-length, log-split, nat_tests, new-more, no_entry, refl, rules, serials-at, serials_of, shelf_by, slice_get, slice_get-get_or, subst, sym, take, take_all, take_more, text-self, upload-adds, upload-all, upload-names, upload-serials, ℕ, ◌∙◌}
 use Rattle.mv_repository.proofs.shelf.Shelf.add_upload.Goals as goal
 
 pub loop-index-init : goal.loop-index-init
 loop-index-init c =
     let whole = c.args.newest.now.log.now in
     let place = c.args.newest.now.place in
-    let old : ShelfParts = record { slots = c.self.inside.slots; tracks = c.self.inside.tracks.items; listing = c.self.inside.listing } in
-    let room : ShelfParts = record old { slots = c.reserve.new.self } in
-    let longer = shelf-longer whole place c.args.gtin.now room
-    (same-shelf (take place whole) c.args.gtin.now old room c.reserve.ensures.table refl refl (subst (AreShelfOf (take place whole) c.args.gtin.now) (sym c.self.view_is) c.requires.shelf)) in
+    let longer = subst (λ (table : SlotTable). AreSlots whole table × IsShelfOf (take place whole) c.args.gtin.now (record { slots = keyed whole table.names table.slots; tracks = c.self.inside.tracks.items; listing = c.self.inside.listing }))
+    (sym c.reserve.ensures.table) (shelf-seen whole place c.args.gtin.now c.self.view_is c.requires.shelf) in
     record { room = omega (arith, c.in_ok-reserve.ensures.room); slots = longer.0; packs = longer.1.packs; keys = longer.1.serials; new = refl; least = omega arith }
 
 pub put_upload-is_first-requires-clause-named : goal.put_upload-is_first-requires-clause-named
@@ -18,20 +15,12 @@ put_upload-is_first-requires-clause-named c =
     ap (λ (l : List (List ℕ)). slice_get l c.loop-index.index) (upload-names (get_or c.args.newest.now.log.now c.args.newest.now.place no_entry).item c.args.gtin.now c.args.serials.now c.requires.upload)
     ∙ slice_get-get_or c.args.serials.now c.loop-index.index c.index-serials-index.result c.loop-index-test.true ∙ ap Some (sym c.index-serials-index.is)
 
-pub put_upload-is_first-requires-clause-worked : goal.put_upload-is_first-requires-clause-worked
-put_upload-is_first-requires-clause-worked c =
-    upload-worked (take c.args.newest.now.place c.args.newest.now.log.now) (get_or c.args.newest.now.log.now c.args.newest.now.place no_entry) c.args.newest.now.stops.now c.args.gtin.now c.args.serials.now c.requires.stops c.requires.upload
-    (shelf_by c.args.newest.now.log.now c.loop-index.self)
-    c.args.newest.now.log.now c.args.newest.now.place (log-split c.args.newest.now.log.now c.args.newest.now.place c.args.newest.now.last) (log-length c.args.newest.now.log.now c.args.newest.now.place c.args.newest.now.last)
-    (take c.loop-index.index c.args.serials.now) c.loop-index.invariant.packs c.index-serials-index.result
-
 pub loop-index-preserved : goal.loop-index-preserved
 loop-index-preserved c =
     let whole = c.args.newest.now.log.now in
     let place = c.args.newest.now.place in
     let at = c.loop-index.index in
     let old = shelf_by whole c.loop-index.self in
-    let now = shelf_by whole c.put_upload-is_first.new.self in
     let done = c.put_upload-is_first.ensures in
     let split = log-split whole place c.args.newest.now.last in
     let before = serials_of (take place whole) c.args.gtin.now in
@@ -40,10 +29,9 @@ loop-index-preserved c =
     record {
       room = omega (arith, c.loop-index.invariant.room, done.room);
       slots = done.slots;
-      packs = upload-adds (take place whole) (get_or whole place no_entry) c.args.newest.now.stops.now c.args.gtin.now c.args.serials.now c.requires.stops c.requires.upload old
-          whole place split (log-length whole place c.args.newest.now.last) c.args.serials.now at now c.index-serials-index.result refl c.loop-index-test.true serial c.loop-index.invariant.packs
-          done.put.again.birth done.put.again.statuses done.put.again.worked done.put.others done.put.listed done.put.made;
-      keys = done.put.keys ∙ (λ i. insert_key bytes_eq (c.loop-index.invariant.keys i) (serial i))
+      packs = upload-adds whole place c.args.newest.now.last c.args.newest.now.stops.now c.args.gtin.now c.args.serials.now c.requires.stops c.requires.upload
+          at old (shelf_by whole c.put_upload-is_first.new.self) c.index-serials-index.result c.loop-index-test.true serial c.loop-index.invariant.packs done.put;
+      keys = done.put.changed.keys ∙ (λ i. insert_key bytes_eq (c.loop-index.invariant.keys i) (serial i))
           ∙ sym (ap (fold (insert_key bytes_eq) before) (take_more c.args.serials.now at [] c.loop-index-test.true) ∙ fold-append (insert_key bytes_eq) before (take at c.args.serials.now) (get_or c.args.serials.now at [] ∷ []));
       new = counted ∙ new-more (take place whole) (get_or whole place no_entry) c.args.gtin.now c.args.serials.now c.requires.upload whole place split (log-length whole place c.args.newest.now.last)
           at c.loop-index.new c.put_upload-is_first.result c.loop-index-test.true
@@ -65,8 +53,7 @@ returns-clause-ok c =
     record {
       slots = c.loop-index.invariant.slots;
       shelf = record {
-        packs = upload-all (take place whole) (get_or whole place no_entry) c.args.newest.now.stops.now c.args.gtin.now c.args.serials.now c.requires.stops upload shelf
-            whole place (log-split whole place c.args.newest.now.last) (log-length whole place c.args.newest.now.last)
+        packs = upload-all whole place c.args.newest.now.last c.args.newest.now.stops.now c.args.gtin.now c.args.serials.now c.requires.stops upload shelf
             (subst (λ (l : List (List ℕ)). ArePacksOf whole (take place whole) l c.args.gtin.now shelf) all c.loop-index.invariant.packs);
         serials = c.loop-index.invariant.keys ∙ ap (fold (insert_key bytes_eq) (serials_of (take place whole) c.args.gtin.now)) all
             ∙ sym (serials-at whole place c.args.gtin.now c.args.serials.now c.args.newest.now.last

@@ -1,5 +1,4 @@
-use Rattle.std.specs.Prelude.{◌≡◌, ◌≤◌, ◌+◌}
-use Rattle.mv_repository.proofs.Lemmas.{AreSlots, bytes_eq, fold, insert_key, keys_of, length, serials_of, shelf_by, take, entry_at, ArePacksOf, new_count}
+use Rattle.mv_repository.proofs.Lemmas.{◌≡◌, ◌≤◌, ◌+◌, AreSlots, bytes_eq, fold, insert_key, keys_of, length, serials_of, shelf_by, take, entry_at, ArePacksOf, new_count}
 use Rattle.mv_repository.proofs.shelf.Shelf.add_upload.Given as goal
 
 -- the packs so far have the upload

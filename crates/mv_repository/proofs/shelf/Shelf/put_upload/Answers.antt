@@ -1,111 +1,93 @@
 -- The pack has a slot, and the other packs keep theirs.
-use Rattle.std.specs.Prelude.{◌≡◌, ◌<◌}
-use Rattle.mv_repository.proofs.Lemmas.{AreSlots, HasNoTrack, IfSome, IsAgain, IsWritten, Kept, List, LogEntry, Made, Option, Own, ShelfParts, SlotTable, Some, [], ap, arith, bytes_eq, comes_first, earlier_place, false, get_or, get_or_default, get_or_from_slice_get, keyed, kept_by, kept_in, batch_at, length, lists, lookup, nothing_kept, option_and_then, own-there, put-first, put-later, put-own, serials_uploaded, shelf_by, slice_get_within, stops_in, subst, sym, text-self, true, ℕ, ◌∙◌}
-use Rattle.mv_repository.proofs.Words.{IsPut, IsTrack, entry_at, set}
-use Rattle.mv_repository.proofs.shelf.Shelf.put_upload.Goals.{in-Some-Made, in-None}
+use Rattle.mv_repository.proofs.Lemmas.{◌≡◌, AreSlots, IfSome, IsAgain, IsPut, IsWritten, Kept, List, LogEntry, Made, Option, Own, ShelfParts, ShelfTable, Slot, Some, [], ap, arith, batch_at, bytes_eq, comes_first, entry_at, false, found-own, get_or_from_slice_get, is-changed, is_listed, keyed, kept_by, kept_in, lookup, none-changed, own-changed, own-kept, own-set, own-within, refl, serials_uploaded, shelf_by, slice_get_within, stops_in, subst, sym, true, ℕ, ◌∙◌}
+use Rattle.mv_repository.proofs.Words.{set, true≢false}
+use Rattle.mv_repository.proofs.shelf.Shelf.put_upload.Goals.{After-put, In-Some-Own, in_default-via-in-Some+in_default, in_default-via-in_default}
 use Rattle.mv_repository.proofs.shelf.Shelf.put_upload.Goals as goal
 
-pub index_mut-track-requires : goal.index_mut-track-requires
-index_mut-track-requires c =
-    let table = c.self.inside.slots.table in
-    let are : AreSlots c.args.newest.now.log.now table = subst (λ (parts : ShelfParts). AreSlots c.args.newest.now.log.now parts.slots.table) (sym c.self.view_is) c.requires.slots in
-    let found : lookup (bytes_eq c.args.serial.now) (keyed c.args.newest.now.log.now table.names table.slots) ≡ Some (Own c.in-Some-Own.number) = grind arith in
-    omega (arith, (own-there c.args.newest.now.log.now table.names c.args.serial.now c.in-Some-Own.number table.slots are.named found).0, c.self.invariant)
-
-pub add_upload-is_first-requires : goal.add_upload-is_first-requires
-add_upload-is_first-requires c =
+pub returns-then-not-comes_first-clause-put : goal.returns-then-not-comes_first-clause-put
+returns-then-not-comes_first-clause-put c =
     let log = c.args.newest.now.log.now in
-    let table = c.self.inside.slots.table in
-    let tracks = c.self.inside.tracks.items in
-    let are : AreSlots log table = subst (λ (parts : ShelfParts). AreSlots log parts.slots.table) (sym c.self.view_is) c.requires.slots in
-    let found : lookup (bytes_eq c.args.serial.now) (keyed log table.names table.slots) ≡ Some (Own c.in-Some-Own.number) = grind arith in
-    let within : c.in-Some-Own.number < length tracks = omega (arith, (own-there log table.names c.args.serial.now c.in-Some-Own.number table.slots are.named found).0, c.self.invariant) in
-    subst (IsTrack log (stops_in log c.args.newest.now.stops.now) c.args.gtin.now)
-    (ap (kept_by tracks) found ∙ get_or_default tracks c.in-Some-Own.number nothing_kept c.index_mut-track.result.now within ∙ sym c.index_mut-track.ensures.value)
-    (subst (λ (parts : ShelfParts). IsTrack log (stops_in log c.args.newest.now.stops.now) c.args.gtin.now (kept_in (shelf_by log parts) c.args.serial.now)) (sym c.self.view_is) c.requires.worked)
+    let shelf = shelf_by log c.args.self.now in
+    let later : comes_first log c.args.newest.now.place (kept_in shelf c.args.serial.now).birth ≡ false = grind arith in
+    record {
+      changed = none-changed log c.args.newest.now.place c.args.serial.now shelf later;
+      later = λ e. refl;
+      again = λ e. absurd (true≢false (sym e ∙ later));
+      listed = λ e. absurd (true≢false (sym e ∙ later));
+    }
 
-module _ (c : goal.After-note) where
+-- the slot of the upload is written under the serial number
+module _ (c : After-put) where
   abbrev log : List LogEntry
   log = c.args.newest.now.log.now
 
-  abbrev table : SlotTable
-  table = c.self.inside.slots.table
+  abbrev slots : List (List ℕ × Slot)
+  slots = keyed log c.self.inside.slots.table.names c.self.inside.slots.table.slots
 
-  abbrev tracks : List Kept
-  tracks = c.self.inside.tracks.items
+  abbrev new : ShelfTable
+  new = record { slots = keyed log c.put.new.self.table.names c.put.new.self.table.slots; tracks = c.self.inside.tracks.items; listing = c.self.inside.listing }
 
-  are : AreSlots log table
-  are = subst (λ (parts : ShelfParts). AreSlots log parts.slots.table) (sym c.self.view_is) c.requires.slots
+  written : IsWritten log c.self.inside.slots.table c.put.new.self.table c.args.serial.now (Made c.args.index c.args.newest.now.place)
+  written =
+      let named = serials_uploaded (entry_at log c.args.newest.now.place).entry.item in
+      c.put.ensures.written log c.args.serial.now (subst (λ (parts : ShelfParts). AreSlots log parts.slots.table) (sym c.self.view_is) c.requires.slots) c.find-spot.ensures
+      (slice_get_within named c.args.index c.args.serial.now c.requires.named) (get_or_from_slice_get named c.args.index c.args.serial.now [] c.requires.named)
 
-  found : lookup (bytes_eq c.args.serial.now) (keyed log table.names table.slots) ≡ Some (Own c.in-Some-Own.number)
+  own : lookup (bytes_eq c.args.serial.now) new.slots ≡ Some (Made c.args.index c.args.newest.now.place)
+  own = found-own c.args.serial.now (Made c.args.index c.args.newest.now.place) (record new { slots = slots }) new written.1
+
+  first : comes_first log c.args.newest.now.place (kept_by new.tracks (lookup (bytes_eq c.args.serial.now) slots)).birth ≡ true
+  first = grind arith
+
+  no-statuses : (kept_by new.tracks (lookup (bytes_eq c.args.serial.now) slots)).statuses ≡ []
+  no-statuses = elim c.in_default.branch [ in_default-via-in-Some+in_default w ↦ grind arith | in_default-via-in_default w ↦ grind arith ]
+
+pub returns-in_default-clause-slots : goal.returns-in_default-clause-slots
+returns-in_default-clause-slots c = (written c).0
+
+pub returns-in_default-clause-put : goal.returns-in_default-clause-put
+returns-in_default-clause-put c =
+    subst (λ (parts : ShelfParts). IsPut (log c) (stops_in (log c) c.args.newest.now.stops.now) c.args.gtin.now c.args.newest.now.place c.args.serial.now (shelf_by (log c) parts) (new c)) c.self.view_is (record {
+      changed = is-changed c.args.serial.now (Made c.args.index c.args.newest.now.place) (record (new c) { slots = slots c }) (new c) (written c).1 (λ other number e is. refl) (λ batch number h. h);
+      later = λ e. absurd (true≢false (sym (first c) ∙ e));
+      again = λ e. subst (IsAgain (log c) (stops_in (log c) c.args.newest.now.stops.now) c.args.gtin.now (Some c.args.newest.now.place) (kept_by (new c).tracks (lookup (bytes_eq c.args.serial.now) (slots c))))
+          (sym (ap (kept_by (new c).tracks) (own c))) (record { birth = refl; statuses = sym (no-statuses c); worked = record { by = refl; blocks = tt } });
+      listed = λ e. subst (λ (slot : Option Slot). IfSome (batch_at (log c) c.args.newest.now.place) (λ batch. is_listed (new c).listing slot batch ≡ true)) (sym (own c)) (grind arith);
+    })
+
+-- the track of the pack is written
+module _ (c : In-Some-Own) where
+  are : AreSlots c.args.newest.now.log.now c.self.inside.slots.table
+  are = subst (λ (parts : ShelfParts). AreSlots c.args.newest.now.log.now parts.slots.table) (sym c.self.view_is) c.requires.slots
+
+  found : lookup (bytes_eq c.args.serial.now) (keyed c.args.newest.now.log.now c.self.inside.slots.table.names c.self.inside.slots.table.slots) ≡ Some (Own c.in-Some-Own.number)
   found = grind arith
 
-  own : (serial : List ℕ) → lookup (bytes_eq serial) (keyed log table.names table.slots) ≡ Some (Own c.in-Some-Own.number)
-      → (c.in-Some-Own.number < length table.names) × (serial ≡ get_or table.names c.in-Some-Own.number [])
-  own serial e = own-there log table.names serial c.in-Some-Own.number table.slots are.named e
+pub index_mut-requires : goal.index_mut-requires
+index_mut-requires c =
+    let at = (goal.at.index_mut-requires c).In-Some-Own in
+    omega (arith, own-within c.args.newest.now.log.now c.self.inside.slots.table (are at) c.self.inside.tracks.items c.self.invariant c.args.serial.now c.in-Some-Own.number (found at))
 
-  within : c.in-Some-Own.number < length tracks
-  within = omega (arith, (own c.args.serial.now found).0, c.self.invariant)
+pub returns-clause-slots : goal.returns-clause-slots
+returns-clause-slots c = are (goal.at.returns-clause-slots c).In-Some-Own
 
-  track : get_or tracks c.in-Some-Own.number nothing_kept ≡ c.index_mut-track.result.now
-  track = get_or_default tracks c.in-Some-Own.number nothing_kept c.index_mut-track.result.now within ∙ sym c.index_mut-track.ensures.value
-
-pub returns-in-Some-Own-clause-slots : goal.returns-in-Some-Own-clause-slots
-returns-in-Some-Own-clause-slots c = are c
-
-pub returns-in-Some-Own-clause-put : goal.returns-in-Some-Own-clause-put
-returns-in-Some-Own-clause-put c =
-    let stops = stops_in (log c) c.args.newest.now.stops.now in
-    let serial = c.args.serial.now in
-    let slots = keyed (log c) (table c).names (table c).slots in
-    subst (λ (parts : ShelfParts). IsPut (log c) stops c.args.gtin.now c.args.newest.now.place serial (shelf_by (log c) parts)
-    (record { slots = slots; tracks = set (tracks c) c.in-Some-Own.number c.add_upload-is_first.new.self; listing = c.note.new.self })) c.self.view_is
-    (put-own (log c) stops c.args.gtin.now c.args.newest.now.place serial slots (tracks c) c.self.inside.listing c.in-Some-Own.number c.add_upload-is_first.new.self c.note.new.self (found c) (within c)
-    (λ other e. ap (bytes_eq serial) ((own c other e).1 ∙ sym (own c serial (found c)).1) ∙ text-self serial)
-    (subst (λ (k : Kept). IsAgain (log c) stops c.args.gtin.now (earlier_place (log c) c.args.newest.now.place k.birth) k c.add_upload-is_first.new.self) (sym (track c)) c.add_upload-is_first.ensures.again)
-    c.note.ensures.kept
-    (λ first batch b.
-    let is : c.add_upload-is_first.result ≡ true = c.add_upload-is_first.ensures.first ∙ ap (λ (k : Kept). comes_first (log c) c.args.newest.now.place k.birth) (sym (track c)) ∙ first in
-    let place : c.then_some-place.result ≡ Some c.args.newest.now.place = grind arith in
-    subst (λ (o : Option (List ℕ)). IfSome o (λ one. lists c.note.new.self one c.in-Some-Own.number ≡ true)) (ap (option_and_then (batch_at (log c))) place ∙ b) c.note.ensures.added))
-
-pub returns-in-Some-Own-clause-first : goal.returns-in-Some-Own-clause-first
-returns-in-Some-Own-clause-first c =
-    c.add_upload-is_first.ensures.first
-    ∙ ap (λ (k : Kept). comes_first (log c) c.args.newest.now.place k.birth) (sym (ap (kept_by (tracks c)) (found c) ∙ track c))
-    ∙ ap (λ (parts : ShelfParts). comes_first (log c) c.args.newest.now.place (kept_in (shelf_by (log c) parts) c.args.serial.now).birth) c.self.view_is
-
--- the slot of the upload is written under the serial number
-written : (c : goal.After-put) → IsWritten c.args.newest.now.log.now c.self.inside.slots.table c.put.new.self.table c.args.serial.now (Made c.args.index c.args.newest.now.place)
-written c =
+pub returns-clause-put : goal.returns-clause-put
+returns-clause-put c =
+    let at = (goal.at.returns-clause-put c).In-Some-Own in
     let log = c.args.newest.now.log.now in
-    let named = serials_uploaded (entry_at log c.args.newest.now.place).entry.item in
-    c.put.ensures.written log c.args.serial.now (subst (λ (parts : ShelfParts). AreSlots log parts.slots.table) (sym c.self.view_is) c.requires.slots) c.find-spot.ensures
-    (slice_get_within named c.args.index c.args.serial.now c.requires.named) (get_or_from_slice_get named c.args.index c.args.serial.now [] c.requires.named)
-
-pub returns-then-is_first-clause-slots : goal.returns-then-is_first-clause-slots
-returns-then-is_first-clause-slots c = (written c).are
-
-pub returns-then-is_first-clause-put : goal.returns-then-is_first-clause-put
-returns-then-is_first-clause-put c =
-    let log = c.args.newest.now.log.now in
+    let stops = stops_in log c.args.newest.now.stops.now in
+    let place = c.args.newest.now.place in
     let serial = c.args.serial.now in
+    let table = c.self.inside.slots.table in
+    let slots = keyed log table.names table.slots in
     let tracks = c.self.inside.tracks.items in
-    let slots = keyed log c.self.inside.slots.table.names c.self.inside.slots.table.slots in
-    let slot : c.slot.result ≡ lookup (bytes_eq serial) slots = c.slot.ensures ∙ c.find-spot.ensures.slot in
-    let none : HasNoTrack (lookup (bytes_eq serial) slots) = elim c.match-slot.branch [ in-Some-Made w ↦ subst HasNoTrack (ap Some (sym w.in-Some-Made.field-0-is) ∙ sym w.in-Some-Made.is ∙ slot) tt | in-None w ↦ subst HasNoTrack (sym w.in-None.is ∙ slot) tt ] in
-    let first : comes_first log c.args.newest.now.place (kept_by tracks (lookup (bytes_eq serial) slots)).birth ≡ true = elim c.match-slot.branch [ in-Some-Made w ↦ grind arith | in-None w ↦ grind arith ] in
-    subst (λ (parts : ShelfParts). IsPut log (stops_in log c.args.newest.now.stops.now) c.args.gtin.now c.args.newest.now.place serial (shelf_by log parts)
-    (record { slots = keyed log c.put.new.self.table.names c.put.new.self.table.slots; tracks = tracks; listing = c.self.inside.listing })) c.self.view_is
-    (put-first log (stops_in log c.args.newest.now.stops.now) c.args.gtin.now c.args.newest.now.place serial slots tracks c.self.inside.listing c.args.index _ (written c).entries none first)
-
-pub returns-else-is_first-clause-put : goal.returns-else-is_first-clause-put
-returns-else-is_first-clause-put c =
-    let log = c.args.newest.now.log.now in
-    let parts = c.args.self.now in
-    let serial = c.args.serial.now in
-    let slots = keyed log parts.slots.table.names parts.slots.table.slots in
-    let spot : c.slot.result ≡ lookup (bytes_eq serial) slots = grind arith in
-    let none : HasNoTrack (lookup (bytes_eq serial) slots) = elim c.match-slot.branch [ in-Some-Made w ↦ subst HasNoTrack (ap Some (sym w.in-Some-Made.field-0-is) ∙ sym w.in-Some-Made.is ∙ spot) tt | in-None w ↦ subst HasNoTrack (sym w.in-None.is ∙ spot) tt ] in
-    let first : comes_first log c.args.newest.now.place (kept_in (shelf_by log parts) serial).birth ≡ false = elim c.match-slot.branch [ in-Some-Made w ↦ grind arith | in-None w ↦ grind arith ] in
-    put-later log (stops_in log c.args.newest.now.stops.now) c.args.gtin.now c.args.newest.now.place serial slots parts.tracks parts.listing none first c.requires.worked
+    let number = c.in-Some-Own.number in
+    let track = c.add_upload.new.self in
+    let first : comes_first log place (kept_by tracks (lookup (bytes_eq serial) slots)).birth ≡ true = grind arith in
+    subst (λ (parts : ShelfParts). IsPut log stops c.args.gtin.now place serial (shelf_by log parts) (record { slots = slots; tracks = set tracks number track; listing = c.note.new.self })) c.self.view_is (record {
+      changed = own-changed log table (are at) tracks c.self.invariant serial number (found at) track c.self.inside.listing c.note.new.self c.note.ensures.kept;
+      later = λ e. absurd (true≢false (sym first ∙ e));
+      again = λ e. subst (λ (pair : Kept × Kept). IsAgain log stops c.args.gtin.now (Some place) pair.0 pair.1)
+          (λ i. (sym (own-kept log table (are at) tracks c.self.invariant serial number (found at) c.index_mut.result.now c.index_mut.ensures.value) i, sym (own-set log table (are at) tracks c.self.invariant serial number (found at) track) i)) c.add_upload.ensures;
+      listed = λ e. subst (λ (slot : Option Slot). IfSome (batch_at log place) (λ batch. is_listed c.note.new.self slot batch ≡ true)) (sym (found at)) c.note.ensures.added;
+    })

@@ -1,5 +1,5 @@
 -- The tracks that may be stopped are worked out, and the entry bears on no other pack.
-use Rattle.mv_repository.proofs.Lemmas.{AreShelfOf, ShelfParts, get_or, may_stop, no_entry, shelf-again, shelf-longer, shelf_by, stop-form, stop-passes, stopped_product, subst, sym, take}
+use Rattle.mv_repository.proofs.Lemmas.{ShelfParts, get_or, may_stop, no_entry, shelf-again, shelf-seen, shelf_by, stop-form, stop-passes, stopped_product}
 use Rattle.mv_repository.proofs.shelf.Shelf.refresh.Goals as goal
 
 pub returns : goal.returns
@@ -8,7 +8,7 @@ returns c =
     let place = c.args.newest.now.place in
     let stop = c.args.stop.now in
     let old : ShelfParts = record { slots = c.self.inside.slots; tracks = c.self.inside.tracks.items; listing = c.self.inside.listing } in
-    let longer = shelf-longer whole place (stopped_product stop) old (subst (AreShelfOf (take place whole) (stopped_product stop)) (sym c.self.view_is) c.requires.shelf) in
+    let longer = shelf-seen whole place (stopped_product stop) c.self.view_is c.requires.shelf in
     record {
       slots = longer.0;
       shelf = shelf-again whole place c.args.newest.now.stops.now (stopped_product stop) c.args.newest.now.last c.requires.stops

@@ -1,6 +1,5 @@
 -- Each form of entry bears on one table; an upload and a status bear on the shelf of one product.
-use Rattle.mv_repository.proofs.Lemmas.{rules, get_or, take, no_entry, arith, common_steps, none-noted, other-noted, master-form, masters-at, stops-at, same-at, shelves-at, named-at, tables-noted, IsUploadOf, is_status_of, true, on_err, on_map, map_err, upload-away, upload-form, status-away, status-form, shelf-kept, shelf-there, shelves-follow, log-split, named-longer, named-upload}
-use Rattle.std.specs.Prelude.{◌≡◌}
+use Rattle.mv_repository.proofs.Lemmas.{◌≡◌, IsShelved, rules, get_or, take, no_entry, arith, common_steps, none-noted, other-noted, master-form, masters-at, stops-at, same-at, shelves-at, named-at, tables-follow, tables-noted, refl, IsUploadOf, is_status_of, true, on_err, on_map, map_err, upload-away, upload-form, status-away, status-form, shelf-kept, subst, AreShelfOf, shelves-follow, log-split, named-longer, named-upload}
 use Rattle.mv_repository.proofs.tables.Tables.add.Goals as goal
 
 pub returns-in_ok-add_master-in-Master-clause-ok : goal.returns-in_ok-add_master-in-Master-clause-ok
@@ -15,10 +14,10 @@ returns-in_ok-add_master-in-Master-clause-ok c =
     }
 
 pub add_upload-requires-clause-shelf : goal.add_upload-requires-clause-shelf
-add_upload-requires-clause-shelf c = shelf-there (take c.args.place c.args.log.now) c.in-Upload.gtin c.args.self.now.shelves.entries _ (search rules) (c.requires.tables.shelves c.in-Upload.gtin)
+add_upload-requires-clause-shelf c = subst (AreShelfOf (take c.args.place c.args.log.now) c.in-Upload.gtin) (search rules) (c.requires.tables.shelves c.in-Upload.gtin)
 
 pub add_status-requires-clause-shelf : goal.add_status-requires-clause-shelf
-add_status-requires-clause-shelf c = shelf-there (take c.args.place c.args.log.now) c.in-Status.key.gtin c.args.self.now.shelves.entries _ (search rules) (c.requires.tables.shelves c.in-Status.key.gtin)
+add_status-requires-clause-shelf c = subst (AreShelfOf (take c.args.place c.args.log.now) c.in-Status.key.gtin) (search rules) (c.requires.tables.shelves c.in-Status.key.gtin)
 
 pub returns-in_err-effect-in-Upload-clause-err : goal.returns-in_err-effect-in-Upload-clause-err
 returns-in_err-effect-in-Upload-clause-err c =
@@ -36,16 +35,14 @@ uploaded : (c : goal.After-self-in-Upload-3-1) → IsUploadOf (get_or c.args.log
 uploaded c = search rules
 
 pub returns-in_ok-effect-in-Upload-clause-ok : goal.returns-in_ok-effect-in-Upload-clause-ok
-returns-in_ok-effect-in-Upload-clause-ok c = record {
-  masters = masters-at c.args.log.now c.args.place c.requires.last c.args.self.now.masters.entries (upload-form (get_or c.args.log.now c.args.place no_entry).item c.in-Upload.gtin c.as_slice-serials.result.now (uploaded c)).2 c.requires.tables.masters;
-  stops = stops-at c.args.log.now c.args.place c.requires.last c.args.self.now.stops (upload-form (get_or c.args.log.now c.args.place no_entry).item c.in-Upload.gtin c.as_slice-serials.result.now (uploaded c)).1 c.requires.tables.stops;
-  shelves = shelves-follow c.args.self.now.shelves.entries c.self-in-Upload-2-1.given.0.entries c.in-Upload.gtin c.add_upload.new.self (λ other. grind (arith, common_steps, (c.in_ok-shelf-in-Upload.ensures.update.0 c.add_upload.new.self).0 other))
-      c.args.log.now (take c.args.place c.args.log.now) c.requires.tables.shelves c.in_ok-effect-in-Upload.ensures.ok
-      (λ other e parts. shelf-kept c.args.log.now c.args.place other parts (upload-away c.args.log.now c.args.place c.in-Upload.gtin c.as_slice-serials.result.now c.requires.last (uploaded c) other e));
-  named =
-      let more = named-longer (take c.args.place c.args.log.now) (get_or c.args.log.now c.args.place no_entry) c.args.log.now (log-split c.args.log.now c.args.place c.requires.last) in
-      omega (arith, more, named-upload c.in-Upload.gtin c.as_slice-serials.result.now (get_or c.args.log.now c.args.place no_entry).item (uploaded c), c.requires.tables.named);
-}
+returns-in_ok-effect-in-Upload-clause-ok c =
+    let looks : IsShelved c.args.self.now.shelves.entries c.self-in-Upload-2-1.given.0.entries c.in-Upload.gtin c.add_upload.new.self = λ other. grind (arith, common_steps, (c.in_ok-shelf-in-Upload.ensures.update.0 c.add_upload.new.self).0 other) in
+    let form = upload-form (get_or c.args.log.now c.args.place no_entry).item c.in-Upload.gtin c.as_slice-serials.result.now (uploaded c) in
+    let more = named-longer (take c.args.place c.args.log.now) (get_or c.args.log.now c.args.place no_entry) c.args.log.now (log-split c.args.log.now c.args.place c.requires.last) in
+    tables-follow c.args.log.now c.args.place c.requires.last c.args.self.now _ c.in-Upload.gtin c.add_upload.new.self form.2 c.requires.tables refl
+    (stops-at c.args.log.now c.args.place c.requires.last c.args.self.now.stops form.1 c.requires.tables.stops) looks
+    c.in_ok-effect-in-Upload.ensures.ok (upload-away c.args.log.now c.args.place c.in-Upload.gtin c.as_slice-serials.result.now c.requires.last (uploaded c))
+    (omega (arith, more, named-upload c.in-Upload.gtin c.as_slice-serials.result.now (get_or c.args.log.now c.args.place no_entry).item (uploaded c), c.requires.tables.named))
 
 -- the entry is the status
 own : (c : goal.After-self-in-Status-2-1) → is_status_of c.in-Status.key (get_or c.args.log.now c.args.place no_entry).item ≡ true

@@ -1,6 +1,5 @@
 -- The first works out the packs that it may bear on; any other changes none.
-use Rattle.std.specs.Prelude.{◌≡◌}
-use Rattle.mv_repository.proofs.Lemmas.{bytes_eq, rules, ap, subst, get_or, take, true, false, Option, None, lookup, unwrap_or, ShelfParts, AreShelfOf, no_shelf, shelf_of, no_entry, stopped_product, shelf-empty, shelf-kept, masters-at, shelves-at, named-at, IsShelved, shelved-none, shelves-follow, stop-form, stop-does, stop-leaves, stop-away}
+use Rattle.mv_repository.proofs.Lemmas.{◌≡◌, bytes_eq, rules, ap, subst, get_or, take, true, false, Option, None, lookup, unwrap_or, ShelfParts, AreShelfOf, no_shelf, shelf_of, no_entry, stopped_product, shelf-empty, masters-at, shelves-at, named-at, refl, shelved-none, tables-follow, stop-form, stop-does, stop-leaves, stop-away}
 use Rattle.mv_repository.proofs.tables.Tables.add_stop.Goals as goal
 
 pub returns-then-not-branch-clause-ok : goal.returns-then-not-branch-clause-ok
@@ -16,16 +15,9 @@ returns-in_default-clause-ok c =
     let none : lookup (bytes_eq gtin) c.args.self.now.shelves.entries ≡ None = search rules in
     let empty : shelf_of gtin c.args.self.now.shelves.entries ≡ no_shelf = ap (λ (o : Option ShelfParts). unwrap_or o no_shelf) none in
     let same : c.get_mut.follows.lender-at-none.entries ≡ c.args.self.now.shelves.entries = search rules in
-    record {
-      masters = masters-at c.args.log.now c.args.place c.requires.last c.args.self.now.masters.entries form.1 c.requires.tables.masters;
-      stops = c.in_ok-add.ensures.ok;
-      shelves = shelves-follow c.args.self.now.shelves.entries c.get_mut.follows.lender-at-none.entries gtin no_shelf (shelved-none c.args.self.now.shelves.entries _ gtin same empty)
-          c.args.log.now (take c.args.place c.args.log.now) c.requires.tables.shelves
-          (shelf-empty c.args.log.now c.args.place c.add.new.self gtin c.requires.last c.in_ok-add.ensures.ok form.0
-          (subst (AreShelfOf (take c.args.place c.args.log.now) gtin) empty (c.requires.tables.shelves gtin)))
-          (λ other e parts. shelf-kept c.args.log.now c.args.place other parts (stop-away c.args.log.now c.args.place c.requires.last c.args.stop.now c.requires.stop other e));
-      named = named-at c.args.log.now c.args.place c.requires.last c.args.self.now.named form.0.1 c.requires.tables.named;
-    }
+    tables-follow c.args.log.now c.args.place c.requires.last c.args.self.now _ gtin no_shelf form.1 c.requires.tables refl c.in_ok-add.ensures.ok (shelved-none c.args.self.now.shelves.entries _ gtin same empty)
+    (shelf-empty c.args.log.now c.args.place c.add.new.self gtin c.requires.last c.in_ok-add.ensures.ok form.0 (subst (AreShelfOf (take c.args.place c.args.log.now) gtin) empty (c.requires.tables.shelves gtin)))
+    (stop-away c.args.log.now c.args.place c.requires.last c.args.stop.now c.requires.stop) (named-at c.args.log.now c.args.place c.requires.last c.args.self.now.named form.0.1 c.requires.tables.named)
 
 pub returns-in_default-clause-effect : goal.returns-in_default-clause-effect
 returns-in_default-clause-effect c = search (rules, stop-does c.args.log.now c.args.place c.requires.last c.args.self.now.stops c.args.stop.now true c.requires.tables.stops c.requires.stop (search rules))
@@ -38,15 +30,8 @@ refresh-requires-clause-shelf c =
 pub returns-clause-ok : goal.returns-clause-ok
 returns-clause-ok c =
     let form = stop-form c.args.stop.now (get_or c.args.log.now c.args.place no_entry).item c.requires.stop in
-    let new = (c.get_mut.follows.lender c.refresh.new.self).entries in
-    let looks : IsShelved c.args.self.now.shelves.entries new (stopped_product c.args.stop.now) c.refresh.new.self = λ other. search rules in
-    record {
-      masters = masters-at c.args.log.now c.args.place c.requires.last c.args.self.now.masters.entries form.1 c.requires.tables.masters;
-      stops = c.in_ok-add.ensures.ok;
-      shelves = shelves-follow c.args.self.now.shelves.entries new (stopped_product c.args.stop.now) c.refresh.new.self looks c.args.log.now (take c.args.place c.args.log.now) c.requires.tables.shelves c.refresh.ensures
-          (λ other e parts. shelf-kept c.args.log.now c.args.place other parts (stop-away c.args.log.now c.args.place c.requires.last c.args.stop.now c.requires.stop other e));
-      named = named-at c.args.log.now c.args.place c.requires.last c.args.self.now.named form.0.1 c.requires.tables.named;
-    }
+    tables-follow c.args.log.now c.args.place c.requires.last c.args.self.now _ (stopped_product c.args.stop.now) c.refresh.new.self form.1 c.requires.tables refl c.in_ok-add.ensures.ok (λ other. search rules)
+    c.refresh.ensures (stop-away c.args.log.now c.args.place c.requires.last c.args.stop.now c.requires.stop) (named-at c.args.log.now c.args.place c.requires.last c.args.self.now.named form.0.1 c.requires.tables.named)
 
 pub returns-clause-effect : goal.returns-clause-effect
 returns-clause-effect c = search (rules, stop-does c.args.log.now c.args.place c.requires.last c.args.self.now.stops c.args.stop.now true c.requires.tables.stops c.requires.stop (search rules))

@@ -1,5 +1,4 @@
-use Rattle.std.specs.Prelude.{◌≡◌, ◌≤◌, ◌+◌, ◌-◌, ◌^◌}
-use Rattle.mv_repository.proofs.Lemmas.{min, slots_in}
+use Rattle.mv_repository.proofs.Lemmas.{◌≡◌, ◌≤◌, ◌+◌, ◌-◌, ◌^◌, min, slots_in}
 use Rattle.mv_repository.proofs.tables.Tables.count.Given as goal
 
 -- with the packs on the shelves that are left all are counted

@@ -1,6 +1,5 @@
 -- No shelf is kept.
-use Rattle.std.specs.Prelude.{◌≡◌}
-use Rattle.mv_repository.proofs.Lemmas.{[], AreShelfOf, no-shelf-yet, no_shelf, refl, rules, shelf_of, subst, sym}
+use Rattle.mv_repository.proofs.Lemmas.{◌≡◌, [], AreShelfOf, no-shelf-yet, no_shelf, refl, rules, shelf_of, subst, sym}
 use Rattle.mv_repository.proofs.tables.Tables.new.Goals as goal
 
 pub returns : goal.returns

@@ -1,10 +1,8 @@
 -- What the ends keep while their lists grow.
-use Rattle.mv_ends.proofs.Words.{AreOfLinks, AreWithin, Err, FailsBy, Frame, HubEnd, HubState, IsFrameOf, IsFront, IsLawfulRecord, IsUnchanged, Item, List, Message, None, Refused, Routes, TookAll, [], append-nil, arith, cell, close_fault, get_or-set_other, get_or-set_same, is_open, items_on, length, length-append, nat_tests, put-each_pair, record-entered, route_fault, route_refusal_of, routed_count, slice_get-append, stamps_suffice, true, with_frame, with_item, ℕ, ◌++◌, ◌+◌, ◌<◌, ◌∷◌, ◌≡◌, ◌≤◌}
-use Rattle.std.specs.List.{All}
+use Rattle.mv_ends.proofs.Words.{All, AreOfLinks, AreWithin, Entry, Err, FailsBy, Frame, HubEnd, HubState, IsFrameOf, IsFront, IsLawfulRecord, IsUnchanged, Item, List, Message, None, Refused, Routes, TookAll, [], append-nil, arith, cell, close_fault, get_or-set_other, get_or-set_same, is_open, items_on, length, length-append, nat_tests, put-each_pair, record-entered, route_fault, route_refusal_of, routed_count, slice_get-append, stamps_suffice, true, with_frame, with_item, ℕ, ◌++◌, ◌+◌, ◌<◌, ◌∷◌, ◌≡◌, ◌≤◌}
 use Rattle.std.proofs.lemmas.List.Elements.{All-push}
 use Rattle.mv_link.specs.declared.limits.TheConstants.{PARTIES_LIMIT, NUMBER_LIMIT}
 use Rattle.mv_party.specs.declared.limits.TheConstants.{SUBMISSIONS_LIMIT}
-use Rattle.mv_hub.specs.declared.entry.Entry.{Entry}
 use Rattle.mv_hub.specs.declared.entry.Entry.TheVariants.{Routed, Closed}
 use Rattle.mv_hub.specs.declared.fault.RouteFault.{RouteFault}
 use Rattle.mv_hub.specs.declared.fault.RouteFault.TheVariants as routing

@@ -1,6 +1,5 @@
 -- What is seen of the ends beside one another.
-use Rattle.mv_ends.proofs.Words.{◌≡◌, ◌<◌, ℕ, List, length, get_or, sym, ap, subst, All, IsPrefix, Item, Frame, IsFrameOf, accepted, accepted_front, items_from, All-front, HubEnd, RepoEnd, HubSeat, SiteState, hub_seat, repo_seat, IsSeatOf, AreEnds}
-use Rattle.mv_repository.specs.declared.entry.LogEntry.{LogEntry}
+use Rattle.mv_ends.proofs.Words.{◌≡◌, ◌<◌, ℕ, List, length, get_or, sym, ap, subst, All, IsPrefix, Item, Frame, IsFrameOf, LogEntry, accepted, accepted_front, items_from, All-front, HubEnd, RepoEnd, HubSeat, SiteState, hub_seat, repo_seat, IsSeatOf, AreEnds}
 
 -- what was applied is a front of each list whose frames were put, where what was taken is a front of what was put
 pub applied_front : (log : List LogEntry) (from : ℕ) (items : List Item) (taken put : List Frame) → accepted taken ≡ items_from log from

@@ -1,17 +1,6 @@
 -- What ends of rings show as they are called one by one.
-use Rattle.mv_ends.proofs.Words.{◌≡◌, ◌<◌, ◌++◌, ◌∷◌, ◌∙◌, ℕ, List, [], length, map, set, get_or, sym, ap, refl, subst, arith, nat_tests, get_or-map, length-map, length-set, map-set, get_or-set_same, Global, Vec, sent, producer_capacity, consumer_capacity, SameProducer, SameConsumer, IsPair, cell, Frame, Outlet, Inlet, ring_put, ring_taken, each_row, with_item, with_frame}
+use Rattle.mv_ends.proofs.Words.{◌≡◌, ◌<◌, ◌++◌, ◌∷◌, ◌∙◌, ℕ, List, [], length, map, set, get_or, sym, ap, subst, arith, nat_tests, get_or-map, length-map, length-set, map-set, get_or-set_same, Global, Vec, sent, cell, Frame, Outlet, each_row, with_item, with_frame}
 use Rattle.std.proofs.Math.Seq.{map-set_same}
-
--- an end is of its ring still
-pub put_stays : {T : Type 0} (old new : Outlet T) → SameProducer old new → ring_put new ≡ ring_put old
-put_stays old new same = λ i. record { words = same.0.0 i; slots = same.0.1 i; names = same.0.2 i; heap = same.0.3 i; size = same.1 i }
-
-pub taken_stays : {T : Type 0} (old new : Inlet T) → SameConsumer old new → ring_taken new ≡ ring_taken old
-taken_stays old new same = λ i. record { words = same.0.0 i; slots = same.0.1 i; names = same.0.2 i; heap = same.0.3 i; size = same.1 i }
-
--- two ends of one ring
-pub one_ring : {T : Type 0} (outlet : Outlet T) (inlet : Inlet T) → IsPair outlet inlet → producer_capacity outlet ≡ consumer_capacity inlet → ring_put outlet ≡ ring_taken inlet
-one_ring outlet inlet pair size = λ i. record { words = sym pair.0 i; slots = sym pair.1 i; names = sym pair.2 i; heap = sym pair.3 i; size = size i }
 
 -- there is one where something is shown
 pub has_place : {A B : Type 0} (f : A → B) (xs : List A) (shown : List B) (place : ℕ) → map f xs ≡ shown → place < length shown → place < length xs
@@ -36,29 +25,24 @@ pub shows_more : {A B : Type 0} (xs : List A) (place : ℕ) (old new : A) → pl
 shows_more xs place old new below here f shown is item more = grind (arith, nat_tests, map-set, shown_at)
 
 -- the same of one end in one of the rows of all links, with the row in which it was put back
-abbrev Row : Type 0
-Row = Vec (Outlet Frame) Global
-
-module _ (rows : List Row) (put : List (List (List Frame))) (view : each_row sent rows ≡ put) (to from : ℕ) (in_range : to < length put) (wide : from < length (get_or put to []))
-    (row : Row) (old : Outlet Frame) (here : row ≡ get_or rows to row) (there : old ≡ get_or row.items from old) where
-  at : to < length rows
-  at = has_place (λ (r : Row). map sent r.items) rows put to view in_range
-
+module _ (rows : List (Vec (Outlet Frame) Global)) (put : List (List (List Frame))) (view : each_row sent rows ≡ put) (to from : ℕ)
+    (in_range : to < length put) (wide : from < length (get_or put to [])) (row : Vec (Outlet Frame) Global) (old : Outlet Frame)
+    (here : row ≡ get_or rows to row) (there : old ≡ get_or row.items from old) where
   row_shown : {A : Type 0} (f : Outlet Frame → A) (shown : List (List A)) → each_row f rows ≡ shown → get_or shown to [] ≡ map f row.items
-  row_shown f shown is = shown_at rows to row row at here (λ (r : Row). map f r.items) shown is []
+  row_shown f shown is = grind (arith, nat_tests, get_or-map, has_place)
 
   below : from < length row.items
   below = has_place sent row.items (get_or put to []) from (sym (row_shown sent put view)) wide
 
   pub cell_shown : {A : Type 0} (f : Outlet Frame → A) (shown : List (List A)) → each_row f rows ≡ shown → (absent : A) → cell shown to from absent ≡ f old
-  cell_shown f shown is absent = ap (λ l. get_or l from absent) (row_shown f shown is) ∙ shown_at row.items from old old below there f (map f row.items) refl absent
+  cell_shown f shown is absent = grind (arith, nat_tests, below, row_shown, get_or-map)
 
-  module _ (next : Row) (new : Outlet Frame) (put_back : next.items ≡ set row.items from new) where
+  module _ (next : Vec (Outlet Frame) Global) (new : Outlet Frame) (put_back : next.items ≡ set row.items from new) where
     pub cell_after : {A : Type 0} (f : Outlet Frame → A) (absent : A) → cell (each_row f (set rows to next)) to from absent ≡ f new
-    cell_after f absent = grind (arith, nat_tests, at, below, shown_after)
+    cell_after f absent = grind (arith, nat_tests, has_place, below, shown_after)
 
     pub cell_same : {A : Type 0} (f : Outlet Frame → A) (shown : List (List A)) → each_row f rows ≡ shown → f new ≡ f old → each_row f (set rows to next) ≡ shown
-    cell_same f shown is same = grind (arith, nat_tests, at, below, shows_same)
+    cell_same f shown is same = grind (arith, nat_tests, has_place, below, shows_same)
 
     pub cell_more : (frame : Frame) → sent new ≡ sent old ++ frame ∷ [] → each_row sent (set rows to next) ≡ with_frame put from to frame
     cell_more frame more = grind (arith, nat_tests, below, map-set, row_shown, shows_more)

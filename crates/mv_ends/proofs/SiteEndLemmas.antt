@@ -1,12 +1,10 @@
 -- What a repository's end keeps as it takes frames.
-use Rattle.mv_ends.proofs.Words.{◌≡◌, ◌<◌, ℕ, List, [], ◌∷◌, ◌++◌, length, arith, Bool, None, true, false, eqb, append-nil, drop, refl, subst, sym, Option, Err, nat_tests, get_or-set_same, get_or-set_other, sent, Message, Item, Frame, accepted, one_more, items_from, SiteState, FailsBy, Taken, apply_fault, with_taken, Submitted, Refused, Memory, refusal_of, reply_to, RepoEnd, IsFront, with_item, stands_to, AreAccepted, is_full, IsRepoUnchanged, Submits, TakesFrame, Applies}
-use Rattle.mv_link.specs.declared.incoming.Look.{Look}
+use Rattle.mv_ends.proofs.Words.{◌≡◌, ◌<◌, ℕ, List, [], ◌∷◌, ◌++◌, length, arith, Bool, None, false, eqb, append-nil, drop, refl, subst, sym, Option, Err, nat_tests, get_or-set_same, get_or-set_other, sent, Message, Item, Frame, accepted, one_more, items_from, SiteState, FailsBy, Taken, apply_fault, with_taken, Submitted, Refused, Memory, refusal_of, reply_to, RepoEnd, IsFront, with_item, stands_to, AreAccepted, is_full, IsRepoUnchanged, Submits, TakesFrame, Applies, Look, Refusal, eq-eqb, option_map_or}
 use Rattle.mv_link.specs.declared.incoming.Look.TheVariants as look
 use Rattle.mv_party.specs.declared.fault.SiteFault.{SiteFault}
 use Rattle.mv_party.specs.declared.fault.SiteFault.TheVariants as site_fault
 use Rattle.mv_party.proofs.CallerLemmas.{items_from-push}
-use Rattle.mv_machine.specs.declared.reply.Refusal.{Refusal}
-use Rattle.std.specs.Option.{option_map_or}
+use Rattle.std.proofs.Math.Seq.{drop-append_seam}
 
 -- a fault of the party calls for its refusal
 pub refused_for : (A : Type 0) (expected : Option SiteFault) (fault : SiteFault) → FailsBy {A = A} site_fault.Memory expected (Err fault)
@@ -25,7 +23,6 @@ apply_refused from old new frame fault unchanged front why next = grind (arith, 
 
 -- what a party takes whatever room its uplink has, it takes where that has room
 pub taken_freely : (full : Bool) (site : SiteState) (from : ℕ) (item : Item) (stands : Look) → apply_fault full site from item stands ≡ None → apply_fault false site from item stands ≡ None
-taken_freely false site from item stands free = free
 taken_freely full site from item stands free = grind (arith, nat_tests)
 
 -- where it took the frame, the reply says so
@@ -36,13 +33,9 @@ apply_taken from number old new taken takes = grind (arith, nat_tests)
 pub none_more : (site : SiteState) (sender : ℕ) (item : Item) (stands : Look) → (stands ≡ look.Next → ⊥) → site.submissions ++ [] ≡ (with_taken site sender item stands).submissions
 none_more site sender item stands other = grind (arith, nat_tests, append-nil)
 
-drop-front : {A : Type 0} (xs ys : List A) → drop (length xs) (xs ++ ys) ≡ ys
-drop-front [] ys = refl
-drop-front (x ∷ xs) ys = drop-front xs ys
-
 -- what was submitted more stands behind what was submitted
 pub more_submitted : (old more new : List Message) → old ++ more ≡ new → more ≡ drop (length old) new
-more_submitted old more new is = subst (λ l. more ≡ drop (length old) l) is (sym (drop-front old more))
+more_submitted old more new is = subst (λ l. more ≡ drop (length old) l) is (sym (drop-append_seam old more))
 
 module _ (message : Message) (old looked new : RepoEnd) (site : looked.site ≡ old.site) (pushed : sent looked.uplink ≡ sent old.uplink)
     (inlets : looked.inlets.taken ≡ old.inlets.taken) where
@@ -59,13 +52,10 @@ from_other : (site : SiteState) (sender from : ℕ) (item : Item) (stands : Look
     → items_from (with_taken site sender item stands).log from ≡ items_from site.log from
 from_other site sender from item stands other = grind (arith, nat_tests, append-nil, items_from-push)
 
-eqb-same : (a : ℕ) → eqb a a ≡ true
-eqb-same a = grind (arith, nat_tests)
-
 -- and from the sender itself
 from_sender : (site : SiteState) (sender : ℕ) (frame : Frame) (frames : List Frame) → accepted frames ≡ items_from site.log sender
     → accepted (frames ++ frame ∷ []) ≡ items_from (with_taken site sender frame.item (stands_to site sender frame)).log sender
-from_sender site sender frame frames seen = grind (arith, nat_tests, eqb-same sender, items_from-push, one_more frames frame)
+from_sender site sender frame frames seen = grind (arith, nat_tests, eq-eqb sender sender refl, items_from-push, one_more frames frame)
 
 -- just the frames that the log has were accepted, with one more
 pub accepted_taken : (site : SiteState) (sender : ℕ) (frame : Frame) (taken : List (List Frame)) → sender < length taken → AreAccepted site.parties site.log taken

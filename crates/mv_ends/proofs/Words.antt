@@ -1,41 +1,25 @@
 -- The names of the library, of the definitions, and of the crates below that several files take, passed on from one place. Declares nothing.
+pub use Rattle.mv_ends.specs.Words.{Bounds, Entry, Frame, Global, HubState, IsFrameOf, IsLawful, IsLawfulAt, IsLawfulParty, IsLawfulRecord, IsPair, IsPrefix, IsSquare, IsWellFormed, LogEntry, Look, Memory, Message, Refusal, Refused, SiteState, State, Submitted, Vec, accepted, cell, close_fault, consumer_capacity, is_open, is_party, items_from, items_on, new_hub, new_site, opened_site, opening, option_map_or, producer_capacity, received, refusal_of, reply_to, route_refusal_of, routed_count, sent, site_of}
 pub use Rattle.mv_ends.specs.HubEnd.{HubSeat, IsUnchanged, Routes, SameHubEnd, hub_seat}
 pub use Rattle.mv_ends.specs.RepoEnd.{Applies, IsRepoUnchanged, SameRepoEnd, Submits, TakesFrame, repo_seat, stands_to}
-pub use Rattle.mv_ends.specs.Rings.{IsFront, Outlet, is_full, ring_put, with_frame, with_item}
+pub use Rattle.mv_ends.specs.Rings.{Inflow, IsFront, Outlet, is_full, ring_put, with_frame, with_item}
 pub use Rattle.mv_ends.specs.Whole.{AreEnds, IsSeatOf, sites_of, state_of}
 pub use Rattle.mv_ends.specs.declared.hub_end.HubEnd.{HubEnd}
 pub use Rattle.mv_ends.specs.declared.repo_end.RepoEnd.{RepoEnd}
 pub use Rattle.mv_ends.specs.inside.Rings.{AreEmpty, AreLinks, Inlet, each_row, inflow_of, ring_taken, table_of}
 pub use Rattle.mv_ends.specs.inside.Valid.{AreAccepted, AreOfLinks, AreWithin, TookAll}
-pub use Rattle.mv_ends.specs.inside.Whole.{IsOpened, IsOutcome}
-pub use Rattle.mv_hub.specs.Hub.{HubState, close_fault, items_on, new_hub}
+pub use Rattle.mv_ends.specs.inside.Whole.{AreOpened, IsOutcome, opened_seat}
 unfoldable pub use Rattle.mv_hub.specs.Hub.{route_fault}
-pub use Rattle.mv_hub.specs.Record.{is_open, routed_count}
 pub use Rattle.mv_link.proofs.CallerLemmas.{accepted_front, one_more}
 pub use Rattle.mv_link.specs.Fault.{FailsBy}
-pub use Rattle.mv_link.specs.Frames.{IsFrameOf, accepted}
-pub use Rattle.mv_link.specs.declared.item.Frame.{Frame}
 pub use Rattle.mv_link.specs.declared.item.Item.{Item}
 pub use Rattle.mv_machine.proofs.CallerLemmas.{All-front, headline, opening-sound, record-entered, slice_get-append, stamps_suffice}
 pub use Rattle.mv_machine.specs.Headline.{HeadlineHolds}
-pub use Rattle.mv_machine.specs.Lawful.{IsLawful, IsLawfulAt, IsLawfulRecord, IsWellFormed}
-pub use Rattle.mv_machine.specs.Replies.{refusal_of, reply_to, route_refusal_of}
-pub use Rattle.mv_machine.specs.State.{State, is_party, opened_site, opening, site_of}
-pub use Rattle.mv_machine.specs.declared.reply.Refusal.TheVariants.{Memory}
-pub use Rattle.mv_machine.specs.declared.reply.Reply.TheVariants.{Refused, Submitted}
-pub use Rattle.mv_message.specs.declared.message.Message.{Message}
 pub use Rattle.mv_pairs.proofs.CallerLemmas.{put-each_pair, square-put, square-replicate}
-pub use Rattle.mv_pairs.specs.Pairs.{IsSquare, cell}
 pub use Rattle.mv_party.specs.Calls.{apply_fault, with_taken}
-pub use Rattle.mv_party.specs.Site.{IsLawfulParty, SiteState, new_site}
 pub use Rattle.mv_party.specs.declared.taken.Taken.{Taken}
-pub use Rattle.mv_repository.specs.Repository.{items_from}
-pub use Rattle.rtrb.specs.Ring.{IsPair, SameConsumer, SameProducer, consumer_capacity, producer_capacity, received, sent}
 pub use Rattle.std.proofs.Common.{Bool, All, Err, IsTrue, List, None, Option, [], ap, append-nil, arith, drop, eqb, false, get_or, inl, inr, length, length-append, ltb-true, map, option_to_list, refl, replicate, rules, set, slice_index_or, subst, suc, sym, true, vec_capacity, vec_items, zero, ℕ, ◌++◌, ◌+◌, ◌<◌, ◌∙◌, ◌∷◌, ◌≡◌, ◌≤◌}
-pub use Rattle.std.proofs.lemmas.Bool.{cases_lt}
+pub use Rattle.std.proofs.lemmas.Bool.{cases_lt, eq-eqb}
 pub use Rattle.std.proofs.lemmas.Bool.Decides.{nat_tests}
 pub use Rattle.std.proofs.lemmas.Grind.{common_steps}
 pub use Rattle.std.proofs.lemmas.List.{get_or-map, get_or-set_other, get_or-set_same, length-map, length-set, map-append, map-set}
-pub use Rattle.std.specs.declared.alloc.Global.{Global}
-pub use Rattle.std.specs.declared.vec.Vec.{Vec}
-pub use mathlib.Core.List.{IsPrefix}

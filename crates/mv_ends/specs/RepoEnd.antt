@@ -1,10 +1,9 @@
 -- What a contract sees of a repository's end, and what its calls leave, by their replies.
 use Rattle.std.specs.Prelude.{◌≡◌, ℕ, ◌+◌, ◌<◌, [], ◌∷◌, ◌++◌, length, List, false, None, drop}
-use Rattle.mv_ends.specs.Words.{Asked, Frame, Known, Memory, Message, Party, Refused, Reply, SiteState, Submitted, WireEmpty, count_from, opened_site, refusal_of, reply_to, sent, with_submission}
+use Rattle.mv_ends.specs.Words.{Asked, Frame, Known, Look, Memory, Message, Party, Refused, Reply, SiteState, Submitted, WireEmpty, count_from, opened_site, refusal_of, reply_to, sent, with_submission}
 use Rattle.mv_ends.specs.Refusals.{IsRefusedBy}
 use Rattle.mv_pack.specs.declared.key.PackKey.{PackKey}
 use Rattle.mv_message.specs.declared.message.Message.TheVariants.{Query}
-use Rattle.mv_link.specs.declared.incoming.Look.{Look}
 use Rattle.mv_link.specs.declared.incoming.Look.TheVariants.{Next}
 use Rattle.mv_link.specs.Receiving.{look_at}
 use Rattle.mv_repository.specs.declared.verdict.Local.TheVariants.{Known as KnownPack, Absent}

@@ -1,7 +1,7 @@
 //! The answer that a frame calls for: its parcel for the uplink, made before anything changes.
 
 ghost use Rattle.std.specs.Prelude.{◌≡◌, ◌<◌, ◌++◌, true, None, is_some, option_to_list, IfOk, IsFalse, OnErr};
-ghost use Rattle.rtrb.specs.Ring.{sent, known_free};
+ghost use Rattle.mv_ends.specs.Words.{known_free, sent};
 ghost use Rattle.mv_party.specs.Calls.{apply_fault, with_taken};
 ghost use Rattle.mv_ends.specs.RepoEnd.{stands_to};
 ghost use Rattle.mv_ends.specs.Rings.{ring_put, is_full};

@@ -1,8 +1,7 @@
 //! The hub's end: the hub, the ends of the uplinks that it takes messages from, and those of the links that it puts frames on.
 
 ghost use Rattle.std.specs.Prelude.{◌≡◌, ◌<◌, ℕ, [], length, slice_index_or, Option, None, Some, IfOk, IfSome, IsTrue, false};
-ghost use Rattle.mv_machine.specs.Lawful.{IsLawfulRecord};
-ghost use Rattle.mv_pairs.specs.Pairs.{IsSquare};
+ghost use Rattle.mv_ends.specs.Words.{IsFrameOf, IsLawfulAt, IsLawfulRecord, IsSquare, are_parties, items_on, new_hub};
 ghost use Rattle.mv_ends.specs.inside.Valid.{TookAll, AreOfLinks, AreWithin, IsLawfulRecord-prop};
 
 use crate::inlets::Inlets;
@@ -10,7 +9,7 @@ use crate::parcel::Parcel;
 use crate::repo_end::RepoEnd;
 use crate::wires::Wires;
 use mv_hub::{Entry, Hub, Parties};
-use mv_link::{Frame, Item};
+use mv_link::Frame;
 use mv_machine::{Limits, Refusal, Reply};
 use mv_message::{Message, Party, Shared};
 use std::alloc::{AllocError, Global};
@@ -57,7 +56,6 @@ impl Drop for HubEnd {
 }
 
 impl HubEnd {
-    ghost use Rattle.mv_ends.specs.Words.{IsFrameOf, new_hub, are_parties, items_on};
     ghost use Rattle.mv_hub.specs.declared.fault.HubFault.{HubFault as AFault};
     ghost use Rattle.mv_hub.specs.declared.fault.HubFault.TheVariants.{StrangerParty};
     ghost use Rattle.mv_ends.specs.Rings.{HasRoomOn, with_frame};
@@ -65,7 +63,6 @@ impl HubEnd {
     ghost use Rattle.mv_ends.specs.HubEnd.{hub_seat, SameHubEnd, IsUnchanged, IsPutRefused, Routes, Relays, Repeats, Closes};
     ghost use Rattle.mv_ends.specs.RepoEnd.{repo_seat, SameRepoEnd, IsRepoUnchanged};
     ghost use Rattle.mv_ends.specs.Whole.{IsSeatOf};
-    ghost use Rattle.mv_machine.specs.Lawful.{IsLawfulAt};
 
     /// The end of a hub where nothing has happened, with its ends of rings that were not used yet. Refused for want of memory.
     pub(crate) fn new(
@@ -152,7 +149,7 @@ impl HubEnd {
             Ok(frame) => frame,
             Err(fault) => return Reply::Refused(Refusal::from(fault)),
         };
-        let Ok(parcel) = copied(self.alloc, &frame) else {
+        let Ok(parcel) = Parcel::of_frame(self.alloc, &frame) else {
             return Reply::Refused(Refusal::Memory);
         };
         let Ok(relayed) = self.hub.relay(from, to) else {
@@ -180,7 +177,7 @@ impl HubEnd {
             Ok(frame) => frame,
             Err(fault) => return Reply::Refused(Refusal::from(fault)),
         };
-        let Ok(again) = copied(self.alloc, &frame) else {
+        let Ok(again) = Parcel::of_frame(self.alloc, &frame) else {
             return Reply::Refused(Refusal::Memory);
         };
         self.put(from, to, again);
@@ -250,21 +247,5 @@ impl HubEnd {
         ensures put { self.new.wires.put ≡ with_frame self.old.wires.put from to frame }
     {
         self.wires.put(from, to, frame);
-    }
-}
-
-/// A copy of a frame: what a receipt holds can't be shared, and a message that is carried is copied. Refused for want of memory.
-fn copied(alloc: Global, frame: &Frame) -> Result<Parcel<Frame>, AllocError>
-    ensures { IfOk result (λ parcel. parcel ≡ frame.now) }
-{
-    let number = frame.number;
-    match &frame.item {
-        Item::Receipt { k, reach, query } => {
-            Ok(Parcel::of_receipt(number, *k, reach.copy(), *query))
-        }
-        Item::Carried { k, stamp, message } => {
-            let message = Parcel::of_copy(alloc, message.get())?;
-            Ok(Parcel::of_carried(number, *k, *stamp, message))
-        }
     }
 }

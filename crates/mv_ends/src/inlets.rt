@@ -3,7 +3,9 @@
 //! The hub takes messages from the uplinks, and each repository frames from the links to it.
 
 ghost use Rattle.std.specs.Prelude.{◌≡◌, ◌<◌, [], length, slice_index_or, IsTrue, IsFalse};
-ghost use mathlib.Core.List.{IsPrefix};
+ghost use Rattle.mv_ends.specs.Words.{IsPrefix, sent};
+ghost use Rattle.mv_ends.specs.Rings.{Inflow, ring_put, with_item, IsEmptyFrom, IsFront};
+ghost use Rattle.mv_ends.specs.inside.Rings.{inflow_of, HasFront};
 
 use crate::parcel::Parcel;
 use mv_message::Party;
@@ -18,19 +20,12 @@ pub struct Inlets<T> {
 }
 
 impl<T> Model for Inlets<T> {
-    ghost use Rattle.mv_ends.specs.Rings.{Inflow};
-    ghost use Rattle.mv_ends.specs.inside.Rings.{inflow_of};
-
     ghost Value = { Inflow T };
 
     ghost view = { λ inlets. inflow_of inlets.ends.items };
 }
 
 impl<T: Drop> Inlets<T> {
-    ghost use Rattle.rtrb.specs.Ring.{sent};
-    ghost use Rattle.mv_ends.specs.Rings.{ring_put, with_item, IsEmptyFrom, IsFront};
-    ghost use Rattle.mv_ends.specs.inside.Rings.{inflow_of, HasFront};
-
     /// The ends of these rings.
     pub(crate) fn new(ends: Vec<Consumer<Parcel<T>>>) -> Inlets<T>
         ensures { result ≡ inflow_of ends.items }
@@ -38,15 +33,8 @@ impl<T: Drop> Inlets<T> {
         Inlets { ends }
     }
 
-    /// How many rings there are.
-    pub(crate) fn len(&self) -> usize
-        ensures { result ≡ length self.now.taken }
-    {
-        self.ends.len()
-    }
-
     /// Whether nothing is seen on the ring from a party. The party may put something there at any time.
-    #[tactic(auto, using(crate::proofs::RingLemmas::has_place, crate::proofs::RingLemmas::shows_same, crate::proofs::RingLemmas::taken_stays, crate::proofs::RingLemmas::shown_after))]
+    #[tactic(auto, using(crate::proofs::RingLemmas::has_place, crate::proofs::RingLemmas::shows_same, crate::proofs::RingLemmas::shown_after))]
     pub(crate) fn is_empty(&mut self, from: Party) -> bool
         requires { from < length self.old.taken }
         ensures same { self.new.rings ≡ self.old.rings }
@@ -67,7 +55,7 @@ impl<T: Drop> Inlets<T> {
     }
 
     /// Takes the parcel at the front of the ring from a party, and opens it.
-    #[tactic(auto, using(crate::proofs::RingLemmas::has_place, crate::proofs::RingLemmas::shows_same, crate::proofs::RingLemmas::taken_stays, crate::proofs::RingLemmas::shows_more))]
+    #[tactic(auto, using(crate::proofs::RingLemmas::has_place, crate::proofs::RingLemmas::shows_same, crate::proofs::RingLemmas::shows_more, crate::proofs::RingLemmas::shown_at))]
     pub(crate) fn take(&mut self, from: Party) -> T
         requires from { from < length self.old.taken }
         requires some { HasFront self.old from }
@@ -79,7 +67,7 @@ impl<T: Drop> Inlets<T> {
     }
 
     /// Looks at both ends of the ring from a party: what was taken is a front of what was put.
-    #[tactic(auto, using(crate::proofs::RingLemmas::has_place, crate::proofs::RingLemmas::shows_same, crate::proofs::RingLemmas::taken_stays, crate::proofs::RingLemmas::put_stays))]
+    #[tactic(auto, using(crate::proofs::RingLemmas::has_place, crate::proofs::RingLemmas::shows_same))]
     pub(crate) fn look_beside(&mut self, from: Party, producer: &mut Producer<Parcel<T>>)
         requires from { from < length self.old.taken }
         requires pair { ring_put producer.old ≡ slice_index_or self.old.rings from (ring_put producer.old) }

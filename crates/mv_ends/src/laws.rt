@@ -6,6 +6,7 @@ ghost use Rattle.mv_ends.specs.RepoEnd.{SameRepoEnd};
 ghost use Rattle.mv_ends.specs.Laws.{AreSameRepos, EndsStayEnds, IsSameItself, IsSameByOne};
 
 /// The ends of one opening stay such: each call keeps what it says of its end, and that is enough.
+#[tactic(auto, using(crate::proofs::CallerLemmas::ends_kept))]
 pub fn ends_stay_ends()
     ensures { EndsStayEnds }
 {}

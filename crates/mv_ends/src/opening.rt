@@ -1,10 +1,10 @@
 //! The ends of one opening.
 
-ghost use Rattle.std.specs.Prelude.{◌≡◌, IfOk, OnOk};
+ghost use Rattle.std.specs.Prelude.{◌≡◌, ◌+◌, IfOk, OnOk};
 ghost use Rattle.mv_machine.specs.State.{opening};
 ghost use Rattle.mv_ends.specs.inside.Rings.{AreLinks};
 ghost use Rattle.mv_ends.specs.Whole.{AreEnds, state_of};
-ghost use Rattle.mv_ends.specs.inside.Whole.{AddsOpened};
+ghost use Rattle.mv_ends.specs.inside.Whole.{AreOpened};
 
 use crate::hub_end::HubEnd;
 use crate::inlets::Inlets;
@@ -34,6 +34,7 @@ struct Opened {
 
 /// The ends of a system where nothing has happened: the hub's, and that of each repository, in order of party. There is a ring
 /// for the uplink of each party, and one for each ordered pair, of the sizes that the limits give. Refused for want of memory.
+#[tactic(auto, using(crate::proofs::OpeningLemmas::square_of, crate::proofs::OpeningLemmas::ends_of, crate::proofs::OpeningLemmas::fresh_of))]
 pub fn open(
     alloc: Global,
     parties: Parties,
@@ -42,14 +43,13 @@ pub fn open(
     ensures ends { IfOk result (λ ends. AreEnds ends.0 ends.1.items) }
     ensures fresh { IfOk result (λ ends. state_of ends.0 ends.1.items ≡ opening parties limits) }
 {
-    let count = parties.len();
     let mut opened = Opened {
         uplinks: Vec::new(alloc),
         rows: Vec::new(alloc),
         repos: Vec::new(alloc),
     };
-    for party in 0..count {
-        opened.add(alloc, party, count, limits)?;
+    for party in 0..parties.len() {
+        opened.add(alloc, party, &parties, limits)?;
     }
     let (uplinks, wires) = (Inlets::new(opened.uplinks), Wires::new(opened.rows));
     let hub = HubEnd::new(alloc, parties, limits, uplinks, wires)?;
@@ -57,19 +57,21 @@ pub fn open(
 }
 
 impl Opened {
-    /// Opens the ends of the next of so many parties: its own, and the hub's of its uplink and of the links to it.
+    /// Opens the ends of the next party: its own, and the hub's of its uplink and of the links to it.
     fn add(
         &mut self,
         alloc: Global,
         party: u32,
-        count: u32,
+        parties: &Parties,
         limits: Limits,
     ) -> Result<(), AllocError>
-        ensures { OnOk result (AddsOpened party count limits self.old self.new) }
+        requires { AreOpened parties.now limits party self.old.uplinks.items self.old.rows.items self.old.repos.items }
+        ensures { OnOk result (AreOpened parties.now limits (party + 1) self.new.uplinks.items self.new.rows.items self.new.repos.items) }
     {
         self.uplinks.reserve(1)?;
         self.rows.reserve(1)?;
         self.repos.reserve(1)?;
+        let count = parties.len();
         let (row, inlets) = open_links(alloc, count, limits.wire())?;
         let room = limits.uplink() as usize;
         let (producer, uplink) = RingBuffer::<Parcel<Shared<Message>>>::new(alloc, room)?;
@@ -83,6 +85,7 @@ impl Opened {
 }
 
 /// The two ends of the links to one party from so many.
+#[tactic(auto, using(crate::proofs::OpeningLemmas::links_more))]
 fn open_links(alloc: Global, count: u32, room: u32) -> Result<(Outlets, Inlets<Frame>), AllocError>
     ensures { IfOk result (λ ends. AreLinks count room ends.0.items ends.1) }
 {
@@ -90,8 +93,8 @@ fn open_links(alloc: Global, count: u32, room: u32) -> Result<(Outlets, Inlets<F
     let mut inlets = Vec::with_capacity(alloc, count as usize)?;
     for _from in 0..count {
         let (producer, consumer) = RingBuffer::<Parcel<Frame>>::new(alloc, room as usize)?;
-        outlets.push_reserved(producer);
-        inlets.push_reserved(consumer);
+        outlets.push(producer)?;
+        inlets.push(consumer)?;
     }
     Ok((outlets, Inlets::new(inlets)))
 }

@@ -1,8 +1,7 @@
 //! What is gathered of all ends of one opening: what happened in a run.
 
 ghost use Rattle.std.specs.Prelude.{◌≡◌, ◌≤◌, length, IsTrue};
-ghost use Rattle.mv_machine.specs.State.{opening, is_party, submissions_of, log_of};
-ghost use Rattle.mv_machine.specs.Lawful.{IsLawful, IsWellFormed};
+ghost use Rattle.mv_ends.specs.Words.{IsLawful, IsWellFormed, is_party, log_of, opening, submissions_of};
 ghost use Rattle.mv_machine.specs.Headline.{HeadlineHolds};
 ghost use Rattle.mv_ends.specs.Whole.{AreEnds, state_of};
 
@@ -33,7 +32,7 @@ impl Drop for Outcome {
 }
 
 impl Model for Outcome {
-    ghost use Rattle.mv_machine.specs.State.{State};
+    ghost use Rattle.mv_ends.specs.Words.{State};
     ghost use Rattle.mv_ends.specs.Whole.{state_of};
     ghost use Rattle.mv_ends.specs.inside.Whole.{IsOutcome};
 
@@ -47,6 +46,7 @@ impl Model for Outcome {
 /// Gathers all ends of one opening, the repositories in order of party, whatever their calls and however these followed one another:
 /// the outcome has the lists of the ends, unchanged, and is lawful. The headline holds of it, from the opening on: with it, two
 /// repositories that applied the same messages about a pack agree on it. It takes no memory.
+#[tactic(auto, using(crate::proofs::LookLemmas::seat_of))]
 pub fn gather(mut hub: HubEnd, mut repos: Vec<RepoEnd>) -> Outcome
     requires { AreEnds hub repos.items }
     ensures outcome { result ≡ state_of hub repos.items }
@@ -86,6 +86,7 @@ impl Outcome {
     }
 
     /// What a party submitted, the oldest message first.
+    #[tactic(auto, using(crate::proofs::OutcomeLemmas::shown))]
     pub fn sub(&self, party: Party) -> &[Shared<Message>]
         requires { IsTrue (is_party self.now party) }
         ensures value { result.now ≡ submissions_of self.now party }
@@ -118,6 +119,7 @@ impl Outcome {
     }
 
     /// The repository of a party. What it answers is the meaning of its log.
+    #[tactic(auto, using(crate::proofs::OutcomeLemmas::shown))]
     pub fn repository(&self, party: Party) -> &Repository
         requires { IsTrue (is_party self.now party) }
         ensures party { result.now.party ≡ party }

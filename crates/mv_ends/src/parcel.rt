@@ -1,14 +1,14 @@
 //! What crosses a ring: a message, or a frame, in memory of its own.
 //!
 //! Whoever puts something on a ring keeps what it has, and what it has may be shared with other lists of its own. So what goes on a
-//! ring is a parcel, of which nobody else holds anything: it is made of a message that is given by value, of a copy, or of other
-//! parcels; it is never shared by whoever has it, and is opened by value. Only the end that takes from a ring looks into what is at its
+//! ring is a parcel, of which nobody else holds anything: it is made of a message that is given by value, or of a copy; it is
+//! never shared by whoever has it, and is opened by value. Only the end that takes from a ring looks into what is at its
 //! front, and an end that keeps what it is given shares it until the submission is made, or hands it back as the only one that has it.
 //! A message that is given to an end by value is a parcel too, so that no two ends are given the same.
 
 ghost use Rattle.std.specs.Prelude.{◌≡◌, IfOk};
 
-use mv_link::{Frame, Item, Reached};
+use mv_link::{Frame, Item};
 use mv_message::{Message, Shared};
 use std::alloc::{AllocError, Global};
 use std::marker::Model;
@@ -74,29 +74,23 @@ impl Parcel<Shared<Message>> {
 }
 
 impl Parcel<Frame> {
-    /// The frame of this number with a receipt, which holds nothing that is shared.
-    pub(crate) fn of_receipt(number: u32, k: u32, reach: Reached, query: bool) -> Parcel<Frame>
-        ensures { result ≡ record { number = number; item = Item.Receipt k reach query } }
+    /// A copy of a frame: what a receipt holds can't be shared, and a message that is carried is copied. Refused for want of memory.
+    pub(crate) fn of_frame(alloc: Global, frame: &Frame) -> Result<Parcel<Frame>, AllocError>
+        ensures { IfOk result (λ parcel. parcel ≡ frame.now) }
     {
-        let item = Item::Receipt { k, reach, query };
-        Parcel {
-            inside: Frame { number, item },
-        }
-    }
-
-    /// The frame of this number with a message that is carried, which is in a parcel.
-    pub(crate) fn of_carried(
-        number: u32,
-        k: u32,
-        stamp: u32,
-        message: Parcel<Shared<Message>>,
-    ) -> Parcel<Frame>
-        ensures { result ≡ record { number = number; item = Item.Carried k stamp message } }
-    {
-        let message = message.open();
-        let item = Item::Carried { k, stamp, message };
-        Parcel {
-            inside: Frame { number, item },
-        }
+        let number = frame.number;
+        let item = match &frame.item {
+            Item::Receipt { k, reach, query } => {
+                let (k, reach, query) = (*k, reach.copy(), *query);
+                Item::Receipt { k, reach, query }
+            }
+            Item::Carried { k, stamp, message } => {
+                let message = Parcel::of_copy(alloc, message.get())?.open();
+                let (k, stamp) = (*k, *stamp);
+                Item::Carried { k, stamp, message }
+            }
+        };
+        let inside = Frame { number, item };
+        Ok(Parcel { inside })
     }
 }

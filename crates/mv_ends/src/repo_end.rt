@@ -224,7 +224,7 @@ impl RepoEnd {
         ensures same { SameRepoEnd self.old self.new }
         ensures reply { Applies from self.old self.new result }
     {
-        if from as usize >= self.inlets.len() {
+        if from as usize >= self.site.parties() {
             return Reply::Refused(Refusal::Party);
         }
         if self.inlets.is_empty(from) {

@@ -2,6 +2,8 @@
 
 ghost use Rattle.std.specs.Prelude.{◌≡◌, ◌<◌, ℕ, [], length, slice_index_or, IsTrue, IsFalse};
 ghost use Rattle.mv_ends.specs.Words.{IsPrefix, cell};
+ghost use Rattle.mv_ends.specs.Rings.{WireTable, with_frame, HasRoomOn, IsFullOn};
+ghost use Rattle.mv_ends.specs.inside.Rings.{table_of};
 
 use crate::inlets::Inlets;
 use crate::parcel::Parcel;
@@ -18,18 +20,12 @@ pub struct Wires {
 }
 
 impl Model for Wires {
-    ghost use Rattle.mv_ends.specs.Rings.{WireTable};
-    ghost use Rattle.mv_ends.specs.inside.Rings.{table_of};
-
     ghost Value = { WireTable };
 
     ghost view = { λ wires. table_of wires.rows.items };
 }
 
 impl Wires {
-    ghost use Rattle.mv_ends.specs.Rings.{with_frame, HasRoomOn, IsFullOn};
-    ghost use Rattle.mv_ends.specs.inside.Rings.{table_of};
-
     /// The ends of these links.
     pub(crate) fn new(rows: Vec<Vec<Producer<Parcel<Frame>>>>) -> Wires
         ensures { result ≡ table_of rows.items }
@@ -38,7 +34,7 @@ impl Wires {
     }
 
     /// Whether the ring of a link has no room. The repository may make room at any time.
-    #[tactic(auto, using(crate::proofs::RingLemmas::cell_same, crate::proofs::RingLemmas::cell_after, crate::proofs::RingLemmas::put_stays))]
+    #[tactic(auto, using(crate::proofs::RingLemmas::cell_same, crate::proofs::RingLemmas::cell_after))]
     pub(crate) fn is_full(&mut self, from: Party, to: Party) -> bool
         requires to { to < length self.old.put }
         requires from { from < length (slice_index_or self.old.put to []) }
@@ -51,7 +47,7 @@ impl Wires {
     }
 
     /// Puts a frame on the ring of a link.
-    #[tactic(auto, using(crate::proofs::RingLemmas::cell_same, crate::proofs::RingLemmas::cell_more, crate::proofs::RingLemmas::put_stays))]
+    #[tactic(auto, using(crate::proofs::RingLemmas::cell_same, crate::proofs::RingLemmas::cell_more))]
     pub(crate) fn put(&mut self, from: Party, to: Party, parcel: Parcel<Frame>)
         requires to { to < length self.old.put }
         requires from { from < length (slice_index_or self.old.put to []) }

@@ -1,10 +1,10 @@
 -- Nothing that is routed after the closing of a link goes over it, and the record only grows.
 use Rattle.std.proofs.lemmas.List.Sums.{take_while-cons}
-use Rattle.mv_machine.proofs.Words.{◌≡◌, ℕ, zero, suc, ◌+◌, ◌≤◌, true, false, List, [], ◌∷◌, ◌++◌, take, cond, Some, refl, append_assoc, append-nil, arith, slice_get, Entry, Follows, IsLawful, Message, Reply, Routed, Runs, State, Step, is_open, items_from, log_of, number_of, routed_count}
+use Rattle.mv_machine.proofs.Words.{◌≡◌, ℕ, zero, suc, ◌+◌, ◌≤◌, true, false, List, [], ◌∷◌, ◌++◌, take, drop, cond, Some, append_assoc, append-nil, arith, slice_get, Entry, Follows, IsLawful, Message, Reply, Routed, State, Step, is_open, items_from, log_of, number_of, routed_count, take-append-drop}
 use Rattle.mv_machine.specs.Closing.{before_closing, NothingRoutedLater, NothingSubmittedLater}
 use Rattle.mv_machine.proofs.PutLemmas.{put-each, log-put}
-use Rattle.mv_machine.proofs.BoundLemmas.{routed_count-few}
-use Rattle.mv_machine.proofs.StepLemmas.{Change, run-keeps}
+use Rattle.mv_machine.proofs.BoundLemmas.{routed_count-few, routed_count-push}
+use Rattle.mv_machine.proofs.StepLemmas.{Change}
 
 -- what stands before the closing of a link goes on behind an entry that does not close it
 before_closing-next : (entry : Entry) (entries : List Entry) (from to : ℕ)
@@ -23,11 +23,8 @@ pub nothing_routed_later : (st : State) → IsLawful st → NothingRoutedLater s
 nothing_routed_later st lawful from to from_is_party to_is_party =
     let count = routed_count (before_closing st.hub.entries from to) from in
     put-each st.hub.parties st.hub.entries from to (λ item. number_of item ≤ count) 2
-    (λ item put. omega (
-      arith,
-      (lawful.of_record.fits put.place (Routed from (number_of item) put.message) put.routed).1,
-      open-before st.hub.entries put.place from to (number_of item) put.message put.routed put.still_open,
-    ))
+    (λ item put. let fits = lawful.of_record.fits put.place (Routed from (number_of item) put.message) put.routed in
+    omega (arith, fits.1, open-before st.hub.entries put.place from to (number_of item) put.message put.routed put.still_open))
     (items_from (log_of st to) from) (log-put st from to lawful from_is_party to_is_party)
 
 -- once a link is closed, what stands before its closing stays
@@ -35,14 +32,10 @@ before_closing-append : (entries more : List Entry) (from to : ℕ) → is_open 
 before_closing-append [] more from to shut = absurd (cc)
 before_closing-append (entry ∷ entries) more from to shut = grind (arith, before_closing-append entries more from to, before_closing-next)
 
--- it is no more than was routed at all
-before_closing-few : (entries : List Entry) (from to party : ℕ) → routed_count (before_closing entries from to) party ≤ routed_count entries party
-before_closing-few [] from to party = omega arith
-before_closing-few (entry ∷ entries) from to party = grind (arith, before_closing-next entry entries from to, before_closing-few entries from to party)
-
--- the record only grows
-pub follows-same : (st : State) → Follows st st
-follows-same st = record { parties = refl; limits = refl; entries = ([], append-nil st.hub.entries) }
+-- no more was routed before an entry than was routed at all
+routed_count-take : (count : ℕ) (entries : List Entry) (party : ℕ) → routed_count (take count entries) party ≤ routed_count entries party
+routed_count-take count entries party =
+    omega (arith, rw (take-append-drop count entries) at (routed_count-push (take count entries) (drop count entries) party))
 
 -- a later state of a later one
 pub follows_further : (first second third : State) → Follows first second → Follows second third → Follows first third
@@ -52,12 +45,7 @@ follows_further first second third a b = grind (arith, append_assoc)
 pub change-follows : (old new : State) (step : Step) (reply : Reply) → Change old step reply new → Follows old new
 change-follows old new step reply change = grind (arith, append-nil)
 
--- and so does each run
-pub run-follows : (old : State) (steps : List Step) (replies : List Reply) (new : State) → Runs old steps replies new → Follows old new
-run-follows old steps replies new run =
-    run-keeps (Follows old) (λ between later step reply change before. follows_further old between later before (change-follows between later step reply change)) old steps replies new run (follows-same old)
-
 -- where a link is closed in one state, nothing that was submitted since is applied over it in a later one
 pub nothing_submitted_later : (old new : State) → IsLawful old → IsLawful new → Follows old new → NothingSubmittedLater old new
 nothing_submitted_later old new old_lawful new_lawful follows from to from_is_party to_is_party shut =
-    grind (arith, before_closing-append, nothing_routed_later, before_closing-few, routed_count-few, number_of, log_of)
+    grind (arith, before_closing-append, nothing_routed_later, routed_count-take, routed_count-few, number_of, log_of)

@@ -7,6 +7,6 @@ pub mod LawfulLemmas
 pub mod ClosingLemmas
 pub mod StampLemmas
 pub mod SubmittedLemmas
-pub mod HeadlineLemmas
 pub mod LimitLemmas
+pub mod HeadlineLemmas
 pub mod CallerLemmas

@@ -1,5 +1,5 @@
 -- Each step keeps the limits, and so does each run.
-use Rattle.mv_machine.proofs.Words.{All-push, All-tail, Bounds, Entry, InRuns, Item, List, LogEntry, Message, None, Query, Reply, SiteState, State, Step, [], append-nil, apply_fault, arith, ask_fault, busy_party, common_steps, drop, elements, find, find-none_at, gained, gained_other, get_or-replicate, is_busy, is_party, is_uplink_full, items_on, length, length-append, link_items, link_items-push, log_of, next_entry, opening, put-each_pair, range_with_len, route_fault, routed_count, sent_of, site_of, wire_of, with_applied, with_site, with_submission, with_wire, ℕ, ◌++◌, ◌+◌, ◌-◌, ◌<◌, ◌∷◌, ◌≡◌, ◌≤◌}
+use Rattle.mv_machine.proofs.Words.{All-tail, Bounds, Entry, InRuns, Item, List, LogEntry, Message, None, Query, Reply, SiteState, State, Step, [], append-nil, apply_fault, arith, ask_fault, busy_party, common_steps, drop, elements, find-none_at, gained, gained_other, get_or-replicate, is_busy, is_party, is_uplink_full, items_on, length, link_items, link_items-push, log_of, next_entry, opening, put-each_pair, route_fault, routed_count, sent_of, site_of, wire_of, with_applied, with_site, with_submission, with_wire, ℕ, ◌++◌, ◌+◌, ◌-◌, ◌<◌, ◌∷◌, ◌≡◌, ◌≤◌}
 use Rattle.mv_link.specs.declared.incoming.Look.TheVariants as look
 use Rattle.mv_machine.specs.Bounded.{IsLinkWithin, KeepsLimits}
 use Rattle.mv_machine.proofs.LawfulLemmas.{IsSound, change-sound, opening-site, opening-sound}
@@ -18,34 +18,19 @@ submitted-keeps : (st : State) (from : ℕ) (message : Message) (log : List LogE
     → KeepsLimits (with_site st from (record (with_submission (site_of st from) message) { log = log }))
 submitted-keeps st from message log sound k free = grind (arith, elements)
 
--- a link is within its limits, by how much of it was relayed and what is under way
-abbrev LinkWithin : State → ℕ → ℕ → ℕ → List ℕ → Type 0
-LinkWithin st from to sent wire =
-    from < length st.hub.parties → to < length st.hub.parties → IsLinkWithin st.limits (items_on st.hub from to) sent wire
-
 -- other frames are under way on a link
-wired-keeps : (st : State) (from to : ℕ) (numbers : List ℕ) → KeepsLimits st → LinkWithin st from to (sent_of st.hub from to) numbers → KeepsLimits (with_wire st from to numbers)
+wired-keeps : (st : State) (from to : ℕ) (numbers : List ℕ) → KeepsLimits st
+    → (from < length st.hub.parties → to < length st.hub.parties → IsLinkWithin st.limits (items_on st.hub from to) (sent_of st.hub from to) numbers)
+    → KeepsLimits (with_wire st from to numbers)
 wired-keeps st from to numbers k within =
-    assumption (put-each_pair (λ i j wire. LinkWithin st i j (sent_of st.hub i j) wire) st.wires from to numbers [] within k.links, k)
+    let links = put-each_pair (λ i j wire. i < length st.hub.parties → j < length st.hub.parties
+    → IsLinkWithin st.limits (items_on st.hub i j) (sent_of st.hub i j) wire) st.wires from to numbers [] within k.links in
+    assumption (links, k)
 
 -- the front of a wire is gone
 dropped-keeps : (st : State) (from to number : ℕ) (rest : List ℕ) → KeepsLimits st → wire_of st from to ≡ number ∷ rest → KeepsLimits (with_wire st from to rest)
 dropped-keeps st from to number rest k front =
-    wired-keeps st from to rest k (λ a b.
-    let was = rw front at (k.links from to a b) in
-    record { under_way = omega (arith, was.under_way); known = All-tail (λ n. (1 ≤ n) × (n ≤ sent_of st.hub from to)) number rest was.known; relayed = was.relayed; unsent = was.unsent })
-
--- one more frame is under way, which was relayed
-pushed-keeps : (st : State) (from to number : ℕ) → KeepsLimits st → length (wire_of st from to) < st.limits.wire → 1 ≤ number → number ≤ sent_of st.hub from to
-    → KeepsLimits (with_wire st from to (wire_of st from to ++ number ∷ []))
-pushed-keeps st from to number k room least most =
-    wired-keeps st from to (wire_of st from to ++ number ∷ []) k (λ a b.
-    let was = k.links from to a b in record {
-      under_way = omega (arith, room, length-append (wire_of st from to) (number ∷ []));
-      known = All-push (λ n. (1 ≤ n) × (n ≤ sent_of st.hub from to)) (wire_of st from to) number was.known (least, most);
-      relayed = was.relayed;
-      unsent = was.unsent;
-    })
+    wired-keeps st from to rest k (λ a b. let was = rw front at (k.links from to a b) in search (arith, All-tail))
 
 -- the record gained an entry, where each link has room for what this puts on it
 entered-keeps : (st : State) (entry : Entry) → KeepsLimits st
@@ -60,9 +45,8 @@ routed-room : (st : State) (from : ℕ) (message : Message) → st.hub.window �
     → length (items_on st.hub sender to) - sent_of st.hub sender to + length (gained st.hub.parties st.hub.entries (next_entry st.hub from message) sender to) ≤ st.limits.window
 unfolding is_busy route_fault busy_party
 routed-room st from message window k free sender to a b =
-    let none : find (is_busy st.hub from message) (range_with_len 0 (length st.hub.parties)) ≡ None = grind arith in
-    let idle = find-none_at (is_busy st.hub from message) to (length st.hub.parties) b none in
-    grind (arith, window, k.links sender to a b, idle, gained_other st.hub.parties st.hub.entries from (routed_count st.hub.entries from + 1) message sender to)
+    let idle = find-none_at (is_busy st.hub from message) to (length st.hub.parties) b in
+    grind (arith, window, k.links sender to a b, idle, gained_other)
 
 -- an item was applied, and the answer that it calls for submitted
 applied-keeps : (st : State) (from to : ℕ) (item : Item) → IsSound st → KeepsLimits st → apply_fault (is_uplink_full st to) (site_of st to) from item look.Next ≡ None
@@ -78,7 +62,8 @@ change-keeps st _ _ _ (asked party key is_party free) sound k = submitted-keeps 
 change-keeps st _ _ _ (routed from message is_party next free) sound k = entered-keeps st _ k (routed-room st from message sound.well_formed.window k free)
 change-keeps st _ _ _ (closed from to from_is_party to_is_party still_open) sound k = grind (arith, entered-keeps)
 change-keeps st _ _ _ (relayed from to from_is_party to_is_party room some) sound k = grind (arith, elements)
-change-keeps st _ _ _ (repeated from to number room least most) sound k = pushed-keeps st from to number k room least most
+change-keeps st _ _ _ (repeated from to number room least most) sound k =
+    wired-keeps st from to _ k (λ a b. grind (arith, elements, k.links from to a b))
 change-keeps st _ _ _ (dropped step reply from to number rest drops front) sound k = dropped-keeps st from to number rest k front
 change-keeps st _ _ _ (applied from to number rest item sender_is_party is_party front next free) sound k = dropped-keeps _ from to number rest (applied-keeps st from to item sound k free) front
 
@@ -87,8 +72,8 @@ unfolding link_items
 opening-keeps parties limits = grind (arith, opening-site, get_or-replicate)
 
 -- every run from an opening
-pub limits_kept : InRuns KeepsLimits
-limits_kept parties limits steps replies new run =
-    (run-keeps (λ (st : State). IsSound st × KeepsLimits st)
+pub runs_kept : InRuns (λ st. IsSound st × KeepsLimits st)
+runs_kept parties limits steps replies new run =
+    run-keeps (λ (st : State). IsSound st × KeepsLimits st)
     (λ old between step reply change both. (change-sound old between step reply change both.0, change-keeps old between step reply change both.0 both.1))
-    (opening parties limits) steps replies new run (opening-sound parties limits, opening-keeps parties limits)).1
+    (opening parties limits) steps replies new run (opening-sound parties limits, opening-keeps parties limits)

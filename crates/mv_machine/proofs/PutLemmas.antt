@@ -1,7 +1,7 @@
 -- Which entry of the record put each item on a link: the items of a link are put there in the order of the record.
-use Rattle.mv_machine.proofs.Words.{All, All-cons, All-nil, Bool, Carried, Closed, Entry, Fits, IsLawful, IsTrue, Item, List, LogEntry, Message, Receipt, Routed, Some, State, [], and_parts, append_assoc, arith, cond, eqb, eqb-true, false, gained, is_open, is_query, is_reached, is_target, items_from, length, link_items, link_items_after, log_of, nat_lt, number_of, reach, refl, routed_count, slice_get, suc, take, take-append_seam, true, zero, ℕ, ◌&&◌, ◌++◌, ◌+◌, ◌<◌, ◌∷◌, ◌≡◌, ◌≤◌}
+use Rattle.mv_machine.proofs.Words.{All, All-cons, All-nil, Bool, Carried, Entry, IsLawful, IsLawfulRecord, IsTrue, Item, List, LogEntry, Message, Receipt, Routed, Some, State, [], and_parts, append_assoc, arith, common_steps, cond, eq-eqb, eqb, eqb-true, gained, gets, is_open, is_query, is_reached, is_target, items_from, length, link_items, link_items_after, log_of, nat_lt, nat_tests, number_of, reach, refl, routed_count, slice_get, suc, take, take-append_seam, true, zero, ℕ, ◌&&◌, ◌++◌, ◌+◌, ◌<◌, ◌∷◌, ◌≡◌, ◌≤◌}
 use Rattle.mv_machine.proofs.PrefixLemmas.{slice_get-behind}
-use Rattle.mv_machine.proofs.BoundLemmas.{AllFit, first-fits, rest-fit, routed_count-push}
+use Rattle.mv_machine.proofs.BoundLemmas.{routed_count-push}
 
 -- an item is made of a message that was routed behind these entries, under this stamp
 abbrev pub IsMadeOf : List (List (List ℕ)) → List Entry → ℕ → ℕ → ℕ → Message → Item → Type 0
@@ -49,73 +49,66 @@ module _ (parties : List (List (List ℕ))) (entries : List Entry) (from to : �
   put-each P least each [] put = All-nil P
   put-each P least each (item ∷ items) put = All-cons P item items (each item put.1) (put-each P (turn item + 1) each items put.2)
 
-reached_open : (parties : List (List (List ℕ))) (before : List Entry) (from : ℕ) (message : Message) (to : ℕ) → is_reached parties before from message to ≡ true → is_open before from to ≡ true
-unfolding is_reached
-reached_open parties before from message to reached = (and_parts (nat_lt to (length parties) && is_target parties before from message to) _ reached).1
-
 -- the turn of the first item of the message that a sender is routed next
 abbrev next_turn : List Entry → ℕ → ℕ
 next_turn entries from = routed_count entries from + routed_count entries from + 2
 
--- what an entry puts on a link, in front of what later ones put on it
-gained-put : (parties : List (List (List ℕ))) (before : List Entry) (entry : Entry) (entries : List Entry) (from to : ℕ) (items : List Item)
-    → Fits (length parties) before entry
-    → ArePut parties (before ++ entry ∷ entries) from to (next_turn (before ++ entry ∷ []) from) items
-    → ArePut parties (before ++ entry ∷ entries) from to (next_turn before from) (gained parties before entry from to ++ items)
-unfolding gained
-gained-put parties before (Closed sender receiver) entries from to items fits later = grind (arith, routed_count-push)
-gained-put parties before (Routed sender k message) entries from to items fits later =
-    by (eqb sender from) refl (rw (routed_count-push before (Routed sender k message ∷ []) from) at later)
-  where
-    whole : List Entry
-    whole = before ++ Routed sender k message ∷ entries
+module _ (parties : List (List (List ℕ))) (from to : ℕ) where
+  -- the entry behind others put an item of its message
+  put-here : (before : List Entry) (message : Message) (entries : List Entry) (item : Item) → is_open before from to ≡ true
+      → IsMadeOf parties before from to (length before + 1) message item
+      → IsPut parties (before ++ Routed from (number_of item) message ∷ entries) from to item
+  put-here before message entries item still_open made =
+      let front = take-append_seam before (Routed from (number_of item) message ∷ entries) in
+      grind (arith, slice_get-behind)
 
-    receipt : Item
-    receipt = Receipt k (reach parties before from message) (is_query message)
+  -- what the next message of the sender puts on the link, in front of what later entries put on it
+  own-put : (before : List Entry) (message : Message) (entries : List Entry) (items : List Item)
+      → let entry = Routed from (routed_count before from + 1) message in
+      ArePut parties (before ++ entry ∷ entries) from to (next_turn before from + 2) items
+      → ArePut parties (before ++ entry ∷ entries) from to (next_turn before from) (gained parties before entry from to ++ items)
+  unfolding gained is_reached
+  own-put before message entries items later =
+      let put = put-here before message entries in
+      let k = routed_count before from + 1 in
+      let own = λ (e : (eqb to from && is_open before from from) ≡ true). let parts = and_parts _ _ e in
+      put (Receipt k (reach parties before from message) (is_query message)) (rw (eqb-true to from parts.0) parts.1) (refl, refl) in
+      let reached = λ (e : is_reached parties before from message to ≡ true). put (Carried k (length before + 1) message)
+      (and_parts (nat_lt to (length parties) && is_target parties before from message to) _ e).1 (refl, refl, e) in
+      rw (eq-eqb from from refl) (grind (arith, put-maybe))
 
-    carried : Item
-    carried = Carried k (length before + 1) message
-
-    put : eqb sender from ≡ true → (item : Item) → number_of item ≡ k → is_open before from to ≡ true → IsMadeOf parties before from to (length before + 1) message item
-        → IsPut parties whole from to item
-    put same item number still_open made =
-        let front = take-append_seam before (Routed sender k message ∷ entries) in
-        grind (arith, slice_get-behind)
-
-    by : (a : Bool) → eqb sender from ≡ a
-        → (let count = routed_count before from + length (cond a (message ∷ []) []) in ArePut parties whole from to (count + count + 2) items)
-        → ArePut parties whole from to (next_turn before from)
-        (cond a (cond (eqb to from && is_open before from from) (receipt ∷ []) [] ++ cond (is_reached parties before from message to) (carried ∷ []) []) [] ++ items)
-    by false same later = put-weaker parties whole from to _ _ items (omega arith) later
-    by true same later =
-        let number : k ≡ routed_count before from + 1 = rw (eqb-true sender from same) at fits.1 in
-        let own = λ (e : (eqb to from && is_open before from from) ≡ true).
-        let parts = and_parts _ _ e in put same receipt refl (rw (eqb-true to from parts.0) parts.1) (refl, refl) in
-        let reached = λ (e : is_reached parties before from message to ≡ true). put same carried refl (reached_open parties before from message to e) (refl, refl, e) in
-        grind (arith, put-maybe)
-
--- what the entries of a record put on a link, where others stand before them
-link-put : (parties : List (List (List ℕ))) (before entries : List Entry) (from to : ℕ) → AllFit (length parties) before entries
-    → ArePut parties (before ++ entries) from to (next_turn before from) (link_items_after parties before entries from to)
-link-put parties before [] from to fit = tt
-link-put parties before (entry ∷ entries) from to fit =
-    gained-put parties before entry entries from to _ (first-fits (length parties) before entry entries fit)
-    (rw (append_assoc before (entry ∷ []) entries) at (link-put parties (before ++ entry ∷ []) entries from to (rest-fit (length parties) before entry entries fit)))
+  -- what the entries of a record put on a link, where others stand before them
+  link-put : (before entries : List Entry) → IsLawfulRecord (length parties) (before ++ entries)
+      → ArePut parties (before ++ entries) from to (next_turn before from) (link_items_after parties before entries from to)
+  unfolding gained
+  link-put before [] lawful = tt
+  link-put before (entry ∷ entries) lawful =
+      let fits = lawful.fits (length before) entry (slice_get-behind before entry entries) in
+      let later = rw append_assoc at (link-put (before ++ entry ∷ []) entries (rw append_assoc lawful)) in
+      grind (arith, nat_tests, routed_count-push, put-weaker, own-put before, take-append_seam before (entry ∷ entries))
 
 -- so what was applied over a link was put there
 pub log-put : (st : State) (from to : ℕ) → IsLawful st → from < length st.hub.parties → to < length st.hub.parties → ArePut st.hub.parties st.hub.entries from to 2 (items_from (log_of st to) from)
 unfolding link_items
 log-put st from to lawful from_is_party to_is_party =
     let applied = (lawful.of_party to to_is_party).applied from from_is_party in
-    put-front st.hub.parties st.hub.entries from to 2 (items_from (log_of st to) from) applied.0 (rw applied.1 (link-put st.hub.parties [] st.hub.entries from to lawful.of_record.fits))
+    put-front st.hub.parties st.hub.entries from to 2 (items_from (log_of st to) from) applied.0 (rw applied.1 (link-put st.hub.parties from to [] st.hub.entries lawful.of_record))
 
 -- and each entry of a log was put on the link from its sender, not before the turn of the first
 pub entry-put : (parties : List (List (List ℕ))) (entries : List Entry) (to least : ℕ) (log : List LogEntry) (place : ℕ) (entry : LogEntry) → slice_get log place ≡ Some entry
     → ArePut parties entries entry.sender to least (items_from log entry.sender) → (least ≤ turn entry.item) × IsPut parties entries entry.sender to entry.item
 entry-put parties entries to least [] place entry at put = absurd (cc)
 entry-put parties entries to least (first ∷ log) zero entry at put = grind arith
-entry-put parties entries to least (first ∷ log) (suc place) entry at put = entry-put parties entries to least log place entry at (rest (eqb first.sender entry.sender) put)
-  where
-    rest : (b : Bool) → ArePut parties entries entry.sender to least (cond b (first.item ∷ items_from log entry.sender) (items_from log entry.sender)) → ArePut parties entries entry.sender to least (items_from log entry.sender)
-    rest true put = put-rest parties entries entry.sender to least first.item _ put
-    rest false put = put
+entry-put parties entries to least (first ∷ log) (suc place) entry at put =
+    let rest = put-rest parties entries entry.sender to least first.item (items_from log entry.sender) in
+    grind (arith, entry-put parties entries to least log place entry at, rest)
+
+-- so was each entry of the log of a party, whose sender is a party
+pub log-entry : (st : State) (party place : ℕ) (entry : LogEntry) → IsLawful st → party < length st.hub.parties
+    → slice_get (log_of st party) place ≡ Some entry → (entry.sender < length st.hub.parties)
+    × ArePut st.hub.parties st.hub.entries entry.sender party 2 (items_from (log_of st party) entry.sender)
+    × IsPut st.hub.parties st.hub.entries entry.sender party entry.item
+log-entry st party place entry lawful is_party at =
+    let from_parties = (lawful.of_party party is_party).answers.from_parties in
+    let put = entry-put st.hub.parties st.hub.entries party 2 (log_of st party) place entry at in
+    grind (arith, common_steps, gets, from_parties, log-put st entry.sender party lawful, put)

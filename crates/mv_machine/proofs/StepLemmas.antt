@@ -1,6 +1,6 @@
 -- What a step changes, and what it has seen to before: one lemma for all that every step keeps.
 use Rattle.mv_pack.specs.declared.key.PackKey.{PackKey}
-use Rattle.mv_machine.proofs.Words.{Allows, Apply, Bool, Close, InSteps, IsTrue, Item, List, Lose, Meets, Message, None, Option, Query, Relay, Repeat, Reply, Route, Runs, Some, State, Step, Submit, Verdict, Verify, [], answer_number, answer_to, answers_in, applied_count, apply_fault, arith, ask_fault, entry_from, false, is_open, is_uplink_full, items_on, length, log_of, nat_tests, next-number, no_answer, reach, refl, route_fault, routed_count, sent_of, site_of, slice_get, submissions_of, submit-free, subst, sym, true, wire_of, with_applied, with_closed, with_relayed, with_routed, with_site, with_submission, with_wire, ℕ, ◌++◌, ◌+◌, ◌<◌, ◌∷◌, ◌≡◌, ◌≤◌}
+use Rattle.mv_machine.proofs.Words.{Allows, Apply, Bool, Close, InSteps, IsTrue, Item, List, Meets, Message, None, Option, Query, Relay, Repeat, Reply, Route, Runs, Some, State, Step, Submit, Verify, [], answer_number, answer_to, answers_in, applied_count, apply_fault, arith, ask_fault, entry_from, false, is_open, is_uplink_full, items_on, length, log_of, nat_tests, next-number, no_answer, reach, refl, route_fault, routed_count, sent_of, site_of, slice_get, submissions_of, submit-free, subst, sym, true, wire_of, with_applied, with_closed, with_relayed, with_routed, with_site, with_submission, with_wire, ℕ, ◌++◌, ◌+◌, ◌<◌, ◌∷◌, ◌≡◌, ◌≤◌}
 use Rattle.mv_link.specs.declared.incoming.Look.TheVariants as look
 use Rattle.mv_machine.specs.declared.reply.Reply.TheVariants.{Refused, Submitted, Asked, Routed, Closed, Relayed, Repeated, Old, Gap, Lost, Applied}
 use Rattle.mv_machine.specs.declared.reply.Refusal.TheVariants.{Memory}
@@ -59,22 +59,13 @@ module _ (st : State) where
   unfolding outcome
   outcome-changes (Submit from message) = grind (arith, nat_tests, nothing, submitted, no_answer, submit-free (is_uplink_full st from) (site_of st from) message)
   outcome-changes (Verify party key) = grind (arith, nat_tests, nothing, ask-changes party key)
-  outcome-changes (Route from) = grind (arith, nat_tests, nothing, routed)
-  outcome-changes (Relay from to) = grind (arith, nat_tests, nothing, relayed)
-  outcome-changes (Apply from to) = grind (arith, nat_tests, nothing, dropped, applied, next-number)
-  outcome-changes (Repeat from to number) = grind (arith, nat_tests, nothing, repeated)
-  outcome-changes (Close from to) = grind (arith, nat_tests, nothing, closed)
-  outcome-changes (Lose from to) = grind (arith, nat_tests, nothing, dropped)
-  outcome-changes (Verdict party q) = grind (arith, nat_tests, nothing)
-
-  is-outcome : (step : Step) (expected : Reply × State) (reply : Reply) (new : State) → Changes st step expected → reply ≡ expected.0 → new ≡ expected.1 → Change st step reply new
-  is-outcome step expected reply new changes same_reply same_state = rw (same_reply, same_state) changes
+  outcome-changes step = grind (arith, nat_tests, nothing, routed, relayed, applied, repeated, closed, dropped, next-number)
 
   -- and so where the outcome is met: want of memory changes nothing
   meets-changes : (step : Step) (expected : Reply × State) (reply : Reply) (new : State) → Changes st step expected → Meets st expected reply new → Change st step reply new
   unfolding Meets
   meets-changes step expected (Refused Memory) new changes met = subst (Change st step (Refused Memory)) (sym met.0) (nothing step (Refused Memory) refl)
-  meets-changes step expected reply new changes met = is-outcome step expected reply new changes met.0 met.1
+  meets-changes step expected reply new changes met = rw (met.0, met.1) changes
 
   pub step-changes : (step : Step) (reply : Reply) (new : State) → Allows st step reply new → Change st step reply new
   unfolding Allows

@@ -11,7 +11,7 @@ ghost use Rattle.mv_machine.specs.Laws.{InRuns, InLawfulStates, InSteps, ClosedL
 
 /// Whatever the steps and whatever their order: what each repository applied from each sender is a prefix of what the record
 /// put on their link, in order and each once, and what was routed is a prefix of what its sender submitted.
-#[tactic(auto, using(crate::proofs::LawfulLemmas::runs_are_sound))]
+#[tactic(auto, using(crate::proofs::LimitLemmas::runs_kept))]
 pub fn runs_are_lawful()
     ensures well_formed { InRuns IsWellFormed }
     ensures lawful { InRuns IsLawful }
@@ -76,7 +76,7 @@ pub fn refusals_change_nothing()
 
 /// Whatever the steps and whatever their order: no party submits more than it may, nor waits for more than its uplink takes; no link
 /// has more under way than its wire takes, nor more waiting to be relayed than its window; and what is under way was relayed.
-#[tactic(auto, using(crate::proofs::LimitLemmas::limits_kept))]
+#[tactic(auto, using(crate::proofs::LimitLemmas::runs_kept))]
 pub fn limits_are_kept()
     ensures { InRuns KeepsLimits }
 {}

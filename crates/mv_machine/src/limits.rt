@@ -1,7 +1,7 @@
 //! The limits of a system.
 
 ghost use Rattle.std.specs.Prelude.{◌≡◌};
-ghost use Rattle.mv_machine.specs.Limits.{is_between};
+ghost use Rattle.mv_machine.specs.Limits.{AreBounds, Bounds, bounds_of, code_of, is_between, limits_of};
 
 use mv_link::{WINDOW_LEAST, WINDOW_LIMIT};
 use mv_party::SUBMISSIONS_LIMIT;
@@ -28,8 +28,6 @@ pub struct Limits {
 }
 
 impl Model for Limits {
-    ghost use Rattle.mv_machine.specs.Limits.{Bounds, AreBounds, bounds_of};
-
     ghost Value = { Bounds };
 
     ghost view = { λ l. bounds_of l.window l.wire l.uplink l.submissions };
@@ -45,8 +43,6 @@ impl Model for Limits {
 }
 
 impl Limits {
-    ghost use Rattle.mv_machine.specs.Limits.{limits_of, AreBounds};
-
     /// The limits of these numbers: items that each link keeps (2 to 256), frames under way on each link (1 to 64),
     /// messages of each party under way to the hub (1 to 64), and messages that each party submits in all (1 to
     /// 1,000,000). The first that is out of its range is the fault, O1 to O4.
@@ -131,8 +127,6 @@ pub enum LimitsFault {
 }
 
 impl LimitsFault {
-    ghost use Rattle.mv_machine.specs.Limits.{code_of};
-
     /// The number of the fault, as `O1`.
     pub fn code(self) -> &'static str
         ensures { result.now ≡ code_of self }

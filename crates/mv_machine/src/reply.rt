@@ -1,6 +1,7 @@
 //! The replies to steps.
 
 ghost use Rattle.std.specs.Prelude.{◌≡◌};
+ghost use Rattle.mv_machine.specs.Replies.{code_of, hub_refusal_of, refusal_of, reply_to, route_refusal_of};
 
 use mv_hub::{HubFault, RouteFault};
 use mv_link::Reached;
@@ -77,8 +78,6 @@ pub enum Reply {
 }
 
 impl Reply {
-    ghost use Rattle.mv_machine.specs.Replies.{reply_to};
-
     /// The reply to a frame of a number that a party took.
     pub fn of_taken(number: u32, taken: Taken) -> Reply
         ensures { result ≡ reply_to number taken }
@@ -143,8 +142,6 @@ pub enum Refusal {
 }
 
 impl Refusal {
-    ghost use Rattle.mv_machine.specs.Replies.{code_of};
-
     /// The number of the refusal, as `S5`.
     pub fn code(self) -> &'static str
         ensures { result.now ≡ code_of self }
@@ -169,9 +166,6 @@ impl Refusal {
 }
 
 impl From<SiteFault> for Refusal {
-    ghost use Rattle.std.specs.Prelude.{◌≡◌};
-    ghost use Rattle.mv_machine.specs.Replies.{refusal_of};
-
     ghost from_gives = { λ fault refusal. refusal ≡ refusal_of fault };
 
     fn from(fault: SiteFault) -> Refusal {
@@ -186,9 +180,6 @@ impl From<SiteFault> for Refusal {
 }
 
 impl From<HubFault> for Refusal {
-    ghost use Rattle.std.specs.Prelude.{◌≡◌};
-    ghost use Rattle.mv_machine.specs.Replies.{hub_refusal_of};
-
     ghost from_gives = { λ fault refusal. refusal ≡ hub_refusal_of fault };
 
     fn from(fault: HubFault) -> Refusal {
@@ -206,9 +197,6 @@ impl From<HubFault> for Refusal {
 }
 
 impl From<RouteFault> for Refusal {
-    ghost use Rattle.std.specs.Prelude.{◌≡◌};
-    ghost use Rattle.mv_machine.specs.Replies.{route_refusal_of};
-
     ghost from_gives = { λ fault refusal. refusal ≡ route_refusal_of fault };
 
     fn from(fault: RouteFault) -> Refusal {

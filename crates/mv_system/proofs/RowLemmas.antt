@@ -1,17 +1,10 @@
 -- The rows of the list machine, by what the parts answer where they do what is asked.
 use Rattle.std.proofs.lemmas.Grind.{elements}
-use Rattle.mv_system.proofs.Words.{Allows, Apply, Bool, IsTrue, Item, List, Look, Lose, Lost, Meets, None, Refused, Relay, Relayed, Repeat, Repeated, SiteFault, SiteMemory, SiteState, Some, State, [], apply_fault, are_parties, arith, count_from, drop, false, is_uplink_full, is_wire_full, items_on, look_at, relay_fault, repeat_fault, rules, sent_of, set-get_or, site_of, slice_get, taken_by, unwrap_or, wire_of, with_relayed, with_site, with_taken, with_wire, ℕ, ◌++◌, ◌+◌, ◌-◌, ◌∷◌, ◌≡◌}
+use Rattle.mv_system.proofs.Words.{Allows, Apply, Bool, IsTrue, Item, Look, Lose, Lost, Meets, None, Refused, Relay, Relayed, Repeat, Repeated, SiteFault, SiteMemory, SiteState, Some, State, [], apply_fault, are_parties, arith, count_from, drop, false, is_uplink_full, is_wire_full, items_on, look_at, relay_fault, repeat_fault, rules, sent_of, set-get_or, site_of, slice_get, taken_by, unwrap_or, wire_of, with_relayed, with_site, with_taken, with_wire, ℕ, ◌++◌, ◌+◌, ◌-◌, ◌∷◌, ◌≡◌}
 use Rattle.mv_link.specs.declared.incoming.Look.TheVariants as look
 use Rattle.mv_machine.specs.declared.reply.Refusal.TheVariants.{WireEmpty}
 use Rattle.mv_machine.specs.Replies.{refusal_of, reply_to}
 use Rattle.mv_machine.specs.Steps.{outcome}
-
--- a list by its front
-front-rest : (xs : List ℕ) (x : ℕ) → slice_get xs 0 ≡ Some x → xs ≡ x ∷ drop 1 xs
-front-rest xs x h1 = grind arith
-
-front-none : (xs : List ℕ) → slice_get xs 0 ≡ None → xs ≡ []
-front-none xs h1 = grind (arith, elements)
 
 module _ (st : State) where
   pub relay_done : (from to : ℕ) → IsTrue (are_parties st.hub from to) → is_wire_full st from to ≡ false → relay_fault st.hub from to ≡ None
@@ -28,11 +21,11 @@ module _ (st : State) where
   pub lose_done : (from to number : ℕ) → IsTrue (are_parties st.hub from to) → slice_get (wire_of st from to) 0 ≡ Some number
       → Allows st (Lose from to) (Lost number) (with_wire st from to (drop 1 (wire_of st from to)))
   unfolding Allows Meets outcome
-  lose_done from to number both front = grind (arith, front-rest)
+  lose_done from to number both front = grind arith
 
   pub apply_empty : (from to : ℕ) → IsTrue (are_parties st.hub from to) → slice_get (wire_of st from to) 0 ≡ None → Allows st (Apply from to) (Refused WireEmpty) st
   unfolding Allows Meets outcome
-  apply_empty from to both empty = grind (arith, front-none)
+  apply_empty from to both empty = grind (arith, elements)
 
   -- the frame in front of a wire, which bears this item, is taken as it stands
   pub apply_done : (from to number : ℕ) (item : Item) (stands : Look) (full : Bool) (site : SiteState) → IsTrue (are_parties st.hub from to)

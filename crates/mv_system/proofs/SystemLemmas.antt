@@ -1,17 +1,12 @@
 -- What each change of a part keeps, and what the list machine sees of it.
-use Rattle.mv_system.proofs.Words.{All-drop, All-push, Allows, AreWiresOf, Bool, Bounds, Change, Entry, Frame, HubState, IsFrameOf, IsSystem, IsTrue, IsWireOf, List, Message, NUMBER_LIMIT, None, Option, Reply, SiteState, Some, State, Step, WireState, [], answers_in, ap, are_parties, arith, ask_fault, cell, cell-map, change-follows, change-keeps, change-sound, close_fault, drop, drop-map, false, get_or, get_or_read, is_open, is_party, is_uplink_full, is_wire_full, items_on, length, length-append, length-map, ltb-true, map-append, new_site, new_wire, numbers_of, numbers_on, option_map, put, put-map, routed_count-few, rules, set, set-get_or, site_of, slice_get, square-put, stamps_suffice, state_of, step-changes, submitted, sym, true, wire_at, wire_of, with_submission, ℕ, ◌++◌, ◌-◌, ◌<◌, ◌∙◌, ◌∷◌, ◌≡◌}
+use Rattle.mv_system.proofs.Words.{All-drop, All-push, Allows, AreWiresOf, Bool, Bounds, Change, Entry, Frame, HubState, IsFrameOf, IsSystem, IsTrue, IsWireOf, List, Message, NUMBER_LIMIT, None, Option, Reply, SiteState, Some, State, Step, WireState, [], answers_in, ap, are_parties, arith, ask_fault, cell, cell-map, change-follows, change-keeps, change-sound, drop, drop-map, false, get_or, get_or_read, headline-same, is_party, is_uplink_full, items_on, length, length-append, length-map, ltb-true, map-append, nat_le, nat_tests, new_site, new_wire, numbers_of, numbers_on, option_map, put, put-map, routed_count-few, rules, set, set-get_or, site_of, slice_get, square-put, stamps_suffice, state_of, step-changes, submitted, sym, wire_at, with_submission, ℕ, ◌++◌, ◌-◌, ◌<◌, ◌∙◌, ◌∷◌, ◌≡◌}
 use Rattle.std.proofs.lemmas.Option.{slice_get-map, slice_get_within, get_or_from_slice_get}
-use Rattle.std.proofs.lemmas.Bool.Decides.{nat_tests}
 use Rattle.mv_link.proofs.CallerLemmas.{of_longer}
 use Rattle.mv_hub.proofs.CallerLemmas.{link_items-push}
 use Rattle.circular_buffer.specs.Buffer.{buffer, keep_last}
 
 -- the number at a place of a wire is that of the frame there
 pub ruleset number_of_frame = (slice_get-map)
-
--- a list that is not too long is kept whole
-keep_all : {A : Type 0} (n : ℕ) (xs : List A) (x : A) → length xs < n → keep_last n (xs ++ x ∷ []) ≡ xs ++ x ∷ []
-keep_all n xs x short = grind (arith, length-append)
 
 -- the numbers under way on a link are those of the frames on its wire
 pub wires_at : (wires : List (List WireState)) (from to : ℕ) → cell (numbers_on wires) from to [] ≡ numbers_of (wire_at wires from to).items
@@ -43,15 +38,13 @@ pub wires_entered : {size : ℕ} {hub : HubState} {wires : List (List WireState)
     → AreWiresOf size (record hub { entries = hub.entries ++ entry ∷ [] }) wires
 wires_entered {size} {hub} {wires} entry k = grind (arith, link_items-push, of_longer)
 
--- where the hub closes a link, that is open and between parties
-pub close_told : (hub : HubState) (from to : ℕ) → close_fault hub from to ≡ None
-    → (from < length hub.parties) × (to < length hub.parties) × (is_open hub.entries from to ≡ true)
-close_told hub from to none = (grind (arith, nat_tests), grind (arith, nat_tests), grind arith)
-
 -- the party at a place
 pub site_read : {st : State} {wires : List (List WireState)} (party : ℕ) (site : SiteState) → IsSystem st wires → IsTrue (is_party st party) → site ≡ get_or st.sites party site
     → site ≡ site_of st party
 site_read {st} party site k is_party read = get_or_read st.sites party site (omega (arith, ltb-true party (length st.hub.parties) is_party, k.well_formed.sites_each)) read (new_site 0 0 0)
+
+-- where nothing was done the headline holds
+pub ruleset headline_kept = (headline-same)
 
 -- what was read and is put back changes nothing
 pub site_back : (sites : List SiteState) (party : ℕ) (site : SiteState) → site ≡ get_or sites party site → set sites party site ≡ sites
@@ -64,11 +57,6 @@ pub submitted_kept : {limits : Bounds} {hub : HubState} {sites : List SiteState}
 submitted_kept {hub = hub} party message full site new k view there full_is read ok none free =
     let here = site_read party site k (rw (← view) at there) read in
     rw (ok, here) (changed (submitted party message (ltb-true party (length hub.parties) (rw (← view) at there)) none (rw (here, full_is, ← view) at free)) k k.are_wires)
-
--- a wire that is not full has room
-pub wire_room : {st : State} {wires : List (List WireState)} → IsSystem st wires → (from to : ℕ) (full : Bool) → full ≡ is_wire_full st from to → full ≡ false
-    → (is_wire_full st from to ≡ false) × (length (wire_of st from to) < st.limits.wire)
-wire_room h1 from to full h2 h3 = grind arith
 
 -- one wire is written
 module _ {size : ℕ} {hub : HubState} {wires : List (List WireState)} (k : AreWiresOf size hub wires) (from to : ℕ) (both : IsTrue (are_parties hub from to))
@@ -84,11 +72,11 @@ module _ {size : ℕ} {hub : HubState} {wires : List (List WireState)} (k : AreW
 
   -- a frame of the link is put on it
   pub frame_pushed : (frame : Frame) (new : WireState) → new ≡ buffer (keep_last old.capacity (old.items ++ frame ∷ [])) old.capacity → IsFrameOf (items_on hub from to) frame
-      → length (cell (numbers_on wires) from to []) < size
+      → nat_le size (length (cell (numbers_on wires) from to [])) ≡ false
       → AreWiresOf size hub (put wires from to new) × (numbers_on (put wires from to new) ≡ put (numbers_on wires) from to (cell (numbers_on wires) from to [] ++ frame.number ∷ []))
   frame_pushed frame new is of room =
-      let short : length old.items < old.capacity = omega (arith, room, ap length seen, length-map old.items (λ f. f.number), old_is.size_is) in
-      let kept : new ≡ buffer (old.items ++ frame ∷ []) old.capacity = is ∙ ap (λ l. buffer l old.capacity) (keep_all old.capacity old.items frame short) in
+      let short : length old.items < old.capacity = grind (arith, nat_tests, room, ap length seen, length-map, old_is.size_is) in
+      let kept : new ≡ buffer (old.items ++ frame ∷ []) old.capacity = grind (arith, length-append) in
       let numbers : numbers_of new.items ≡ cell (numbers_on wires) from to [] ++ frame.number ∷ [] =
       ap (λ (w : WireState). numbers_of w.items) kept ∙ map-append (λ f. f.number) old.items (frame ∷ []) ∙ ap (λ l. l ++ frame.number ∷ []) (sym seen) in (
         written new (rw kept (record { size_is = old_is.size_is; frames = All-push (IsFrameOf (items_on hub from to)) old.items frame old_is.frames of })),

@@ -1,5 +1,5 @@
 -- The names of the library, of the definitions, and of the crates below that the proofs cite, passed on from one place. Declares nothing.
-pub use Rattle.mv_hub.specs.Hub.{HubState, are_parties, close_fault, items_on, new_hub, next_entry, relay_fault, repeat_fault, sent_of, with_relayed}
+pub use Rattle.mv_hub.specs.Hub.{HubState, are_parties, items_on, new_hub, next_entry, relay_fault, repeat_fault, sent_of, with_relayed}
 pub use Rattle.mv_hub.specs.Record.{is_open, routed_count}
 pub use Rattle.mv_hub.specs.declared.entry.Entry.{Entry}
 pub use Rattle.mv_hub.specs.declared.entry.Entry.TheVariants.{Closed}
@@ -28,8 +28,9 @@ pub use Rattle.mv_party.specs.Site.{SiteState, answers_in, count_from, new_site,
 pub use Rattle.mv_party.specs.declared.fault.SiteFault.{SiteFault}
 pub use Rattle.mv_party.specs.declared.fault.SiteFault.TheVariants.{Memory as SiteMemory}
 pub use Rattle.mv_system.specs.inside.World.{AreWiresOf, IsSystem, IsWireOf, WireState, new_wire, numbers_of, numbers_on, state_of, wire_at}
-pub use Rattle.std.proofs.Common.{Bool, Err, IsTrue, List, None, Option, Some, [], ap, arith, drop, false, get_or, length, length-append, ltb-true, map, option_map, refl, rules, set, slice_get, sym, take, true, unwrap_or, vec_capacity, vec_len, ℕ, ◌++◌, ◌+◌, ◌-◌, ◌<◌, ◌∙◌, ◌∷◌, ◌≡◌, ◌≤◌}
+pub use Rattle.std.proofs.Common.{Bool, Err, IsTrue, List, None, Option, Some, [], ap, arith, drop, false, get_or, length, length-append, ltb-true, map, nat_le, option_map, refl, rules, set, slice_get, sym, take, true, unwrap_or, vec_capacity, vec_len, ℕ, ◌++◌, ◌+◌, ◌-◌, ◌<◌, ◌∙◌, ◌∷◌, ◌≡◌, ◌≤◌}
 pub use Rattle.std.proofs.lemmas.Bool.{and_parts}
+pub use Rattle.std.proofs.lemmas.Bool.Decides.{nat_tests}
 pub use Rattle.std.proofs.lemmas.List.{get_or_read, length-map, map-append, set-get_or, take_more}
 pub use Rattle.std.proofs.lemmas.List.Elements.{All-drop, All-push}
 pub use Rattle.std.proofs.lemmas.List.FromFn.{map-range_with_len_more}

@@ -185,6 +185,7 @@ impl World {
     /// these steps, nothing is applied over it that was submitted during them; and over no link is anything applied that was
     /// routed after its closing. Two repositories that applied the same messages about a pack, in whatever order these came, agree
     /// on it.
+    #[tactic(auto, using(crate::proofs::SystemLemmas::headline_kept))]
     pub fn run(&mut self, steps: &[Step]) -> Result<Vec<Reply>, AllocError>
         ensures run { IfOk result (λ replies. Runs self.old steps.now replies.items self.new) }
         ensures well_formed { IsWellFormed self.old }

@@ -1,6 +1,6 @@
 -- Rings, by the end that is taken from, and the tables of all wires.
 use Rattle.std.specs.Prelude.{◌≡◌, ◌<◌, ℕ, List, [], length, map, slice_index_or}
-use Rattle.mv_ends.specs.Words.{All, AnyItems, Frame, Global, Vec, consumer_capacity, known_free, known_items, put, received, sent}
+use Rattle.mv_ends.specs.Words.{All, AnyItems, Frame, Global, Vec, consumer_capacity, known_free, known_items, received, sent}
 use Rattle.rtrb.specs.declared.consumer.Consumer.{Consumer}
 use Rattle.mv_ends.specs.Rings.{Inflow, Outlet, Ring, WireTable, ring_put}
 
@@ -23,10 +23,9 @@ each_row f rows = map (λ (row : Vec (Outlet Frame) Global). map f row.items) ro
 abbrev pub table_of : List (Vec (Outlet Frame) Global) → WireTable
 table_of rows = record { rings = each_row ring_put rows; put = each_row sent rows; free = each_row known_free rows }
 
-module _ {T : Type 0} where
-  -- something is known to wait on the ring from a party
-  abbrev pub HasFront : Inflow T → ℕ → Type 0
-  HasFront inlets from = 0 < length (slice_index_or inlets.known from [])
+-- something is known to wait on the ring from a party
+abbrev pub HasFront : {T : Type 0} → Inflow T → ℕ → Type 0
+HasFront inlets from = 0 < length (slice_index_or inlets.known from [])
 
 -- nothing was put on any ring, or taken from it
 abbrev pub AreEmpty : {A : Type 0} → List (List A) → Type 0

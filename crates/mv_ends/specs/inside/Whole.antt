@@ -1,31 +1,32 @@
 -- All ends of one opening, and what they are as the lists of the list machine.
-use Rattle.std.specs.Prelude.{◌≡◌, ℕ, ◌∷◌, ◌++◌, List, []}
-use Rattle.mv_ends.specs.Words.{Bounds, Frame, Global, Message, Vec, new_site, received, IsLawful, IsWellFormed}
+use Rattle.std.specs.Prelude.{◌≡◌, ℕ, ◌<◌, List, [], length, map, slice_index_or}
+use Rattle.std.specs.List.{range_with_len}
+use Rattle.mv_ends.specs.Words.{Bounds, Frame, Global, Message, Vec, new_site, received, sent, IsLawful, IsWellFormed}
 use Rattle.mv_ends.specs.declared.hub_end.HubEnd.{HubEnd}
-use Rattle.mv_ends.specs.declared.opening.Opened.{Opened}
 use Rattle.mv_ends.specs.declared.repo_end.RepoEnd.{RepoEnd}
+use Rattle.mv_ends.specs.HubEnd.{HubSeat}
+use Rattle.mv_ends.specs.RepoEnd.{repo_seat}
 use Rattle.mv_ends.specs.Rings.{Outlet, ring_put}
-use Rattle.mv_ends.specs.inside.Rings.{AreLinks, Inlet, ring_taken}
-use Rattle.mv_ends.specs.Whole.{AreEnds, state_of}
+use Rattle.mv_ends.specs.inside.Rings.{AreEmpty, Inlet, each_row, ring_taken}
+use Rattle.mv_ends.specs.Whole.{AreEnds, IsSeatOf, sites_of, state_of}
 
--- the ends that were opened for one of so many parties, by the limits of the system: its own, the hub's of its uplink, and the hub's of the
--- links to it
-pub record IsOpened (party count : ℕ) (limits : Bounds) (repo : RepoEnd) (uplink : Inlet Message) (row : List (Outlet Frame)) : Type 0 where
-  pub site : repo.site ≡ new_site party count limits.submissions
-  pub pair : ring_put repo.uplink ≡ ring_taken uplink
-  pub untaken : received uplink ≡ []
-  pub size : (ring_put repo.uplink).size ≡ limits.uplink
-  pub links : AreLinks count limits.wire row repo.inlets
+-- what stays of a hub's end with these parties and ends of rings
+abbrev pub opened_seat : List (List (List ℕ)) → Bounds → List (Inlet Message) → List (Vec (Outlet Frame) Global) → HubSeat
+opened_seat parties limits uplinks rows = record { parties = parties; limits = limits; uplinks = map ring_taken uplinks; wires = each_row ring_put rows }
 
--- the ends that were opened for the parties so far, with those of the next
-pub record AddsOpened (party count : ℕ) (limits : Bounds) (old new : Opened) : Type 0 where
-  pub repo : RepoEnd
-  pub uplink : Inlet Message
-  pub row : Vec (Outlet Frame) Global
-  pub opened : IsOpened party count limits repo uplink row.items
-  pub uplinks : new.uplinks.items ≡ old.uplinks.items ++ uplink ∷ []
-  pub rows : new.rows.items ≡ old.rows.items ++ row ∷ []
-  pub repos : new.repos.items ≡ old.repos.items ++ repo ∷ []
+-- The ends of so many of these parties, by the limits of the system, where nothing has happened: the hub's of their uplinks, the hub's of the
+-- links to them, and their own.
+pub record AreOpened (parties : List (List (List ℕ))) (limits : Bounds) (opened : ℕ) (uplinks : List (Inlet Message))
+    (rows : List (Vec (Outlet Frame) Global)) (repos : List RepoEnd) : Type 0 where
+  pub uplinks_each : length uplinks ≡ opened
+  pub rows_each : length rows ≡ opened
+  pub repos_each : length repos ≡ opened
+  pub untaken : AreEmpty (map received uplinks)
+  pub unused : (to : ℕ) → AreEmpty (slice_index_or (each_row sent rows) to [])
+  pub wide : (to : ℕ) → to < opened → length (slice_index_or (each_row sent rows) to []) ≡ length parties
+  pub sites : sites_of repos ≡ map (λ party. new_site party (length parties) limits.submissions) (range_with_len 0 opened)
+  pub seats : (party : ℕ) (absent : RepoEnd) → party < opened
+      → IsSeatOf (opened_seat parties limits uplinks rows) party (repo_seat (slice_index_or repos party absent))
 
 -- what an outcome keeps
 pub record IsOutcome (end : HubEnd) (repos : List RepoEnd) : Type 0 where

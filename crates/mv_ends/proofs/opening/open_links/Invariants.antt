@@ -1,7 +1,6 @@
-use Rattle.mv_ends.proofs.Words.{◌≤◌, vec_items, vec_capacity, inflow_of, AreLinks}
+use Rattle.mv_ends.proofs.Words.{vec_items, inflow_of, AreLinks}
 use Rattle.mv_ends.proofs.opening.open_links.Given as goal
 
--- the rings so far are those of so many links, and there is room for the others
+-- the rings so far are those of so many links
 abbrev pub invariant-loop-from : goal.invariant-loop-from
 invariant-loop-from l = AreLinks l._from l.room (vec_items l.outlets) (inflow_of (vec_items l.inlets))
-    × (l.count ≤ vec_capacity l.outlets) × (l.count ≤ vec_capacity l.inlets)

@@ -1,5 +1,5 @@
-use Rattle.mv_system.proofs.Words.{Relay, Relayed, put}
-use Rattle.mv_system.proofs.SystemLemmas.{Leaves, frame_pushed, left, wire_room, wires_relayed}
+use Rattle.mv_system.proofs.Words.{sym, ◌∙◌, Relay, Relayed, put}
+use Rattle.mv_system.proofs.SystemLemmas.{Leaves, frame_pushed, left, wires_relayed}
 use Rattle.mv_system.proofs.RowLemmas.{relay_done}
 use Rattle.mv_system.proofs.world.World.relay.Goals as goal
 use Rattle.mv_system.proofs.world.World.relay.Goals.{After-drop}
@@ -11,11 +11,11 @@ relayed c =
     let to = c.args.to in
     let frame = c.in_ok-frame in
     let both = rw (c.are_parties.ensures, ← c.self.view_is) at c.if-not-are_parties.false in
-    let room = wire_room c.self.invariant from to c.is_wire_full.result (rw (← c.self.view_is) at c.is_wire_full.ensures) c.if-is_wire_full.false in
+    let room = sym (rw (← c.self.view_is) at c.is_wire_full.ensures) ∙ c.if-is_wire_full.false in
     let pushed = frame_pushed c.self.invariant.are_wires from to both c.at_mut-wire.result.now c.at_mut-wire.ensures.value frame.frame c.push_back.new.self
-    c.push_back.ensures.items frame.ensures.frame room.1 in
+    c.push_back.ensures.items frame.ensures.frame room in
     left (Relay from to) (Relayed frame.frame.number) c.self.view_is c.self.invariant
-    (rw (frame.ensures.ok, pushed.1, frame.ensures.number) (relay_done _ from to both room.0 frame.ensures.fault)) (rw frame.ensures.ok (wires_relayed _ pushed.0))
+    (rw (frame.ensures.ok, pushed.1, frame.ensures.number) (relay_done _ from to both room frame.ensures.fault)) (rw frame.ensures.ok (wires_relayed _ pushed.0))
 
 pub invariant_of-self-2 : goal.invariant_of-self-2
 invariant_of-self-2 c = (relayed c).1

@@ -1,5 +1,5 @@
-use Rattle.mv_system.proofs.Words.{Repeat, Repeated, put}
-use Rattle.mv_system.proofs.SystemLemmas.{Leaves, frame_pushed, left, wire_room}
+use Rattle.mv_system.proofs.Words.{sym, ◌∙◌, Repeat, Repeated, put}
+use Rattle.mv_system.proofs.SystemLemmas.{Leaves, frame_pushed, left}
 use Rattle.mv_system.proofs.RowLemmas.{repeat_done}
 use Rattle.mv_system.proofs.world.World.repeat.Goals as goal
 use Rattle.mv_system.proofs.world.World.repeat.Goals.{After-drop}
@@ -11,11 +11,11 @@ repeated c =
     let to = c.args.to in
     let frame = c.in_ok-frame in
     let both = rw (c.are_parties.ensures, ← c.self.view_is) at c.if-not-are_parties.false in
-    let room = wire_room c.self.invariant from to c.is_wire_full.result (rw (← c.self.view_is) at c.is_wire_full.ensures) c.if-is_wire_full.false in
+    let room = sym (rw (← c.self.view_is) at c.is_wire_full.ensures) ∙ c.if-is_wire_full.false in
     let pushed = frame_pushed c.self.invariant.are_wires from to both c.at_mut-wire.result.now c.at_mut-wire.ensures.value frame.frame c.push_back.new.self
-    c.push_back.ensures.items frame.ensures.frame room.1 in
+    c.push_back.ensures.items frame.ensures.frame room in
     left (Repeat from to c.args.number) (Repeated c.args.number) c.self.view_is c.self.invariant
-    (rw (pushed.1, frame.ensures.number) (repeat_done _ from to c.args.number both room.0 frame.ensures.fault)) pushed.0
+    (rw (pushed.1, frame.ensures.number) (repeat_done _ from to c.args.number both room frame.ensures.fault)) pushed.0
 
 pub invariant_of-self : goal.invariant_of-self
 invariant_of-self c = (repeated c).1

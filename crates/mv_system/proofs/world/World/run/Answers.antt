@@ -1,4 +1,4 @@
-use Rattle.mv_system.proofs.Words.{◌≡◌, ◌+◌, [], ◌∷◌, ◌++◌, take, rules, sym, ap, ◌∙◌, arith, headline-same, headline_further, runs-push, take_more}
+use Rattle.mv_system.proofs.Words.{◌≡◌, ◌+◌, [], ◌∷◌, ◌++◌, take, sym, ap, ◌∙◌, arith, headline_further, runs-push, take_more}
 use Rattle.mv_system.proofs.world.World.run.Goals as goal
 
 -- One more step was taken, and one more reply noted.
@@ -15,16 +15,3 @@ loop-step-preserved c =
       room = omega (arith, c.push_reserved.ensures.capacity, c.loop-step.invariant.room);
       count = omega (arith, c.push_reserved.ensures.len, c.loop-step.invariant.count);
     }
-
--- No step was taken yet.
-pub loop-step-init : goal.loop-step-init
-loop-step-init c = record {
-  ran = search rules;
-  headline = headline-same _ c.record.ensures.well_formed c.record.ensures.lawful;
-  room = search rules;
-  count = search rules;
-}
-
--- No step was taken at all.
-pub returns-in_err-reserve-clause-headline : goal.returns-in_err-reserve-clause-headline
-returns-in_err-reserve-clause-headline c = headline-same _ c.record.ensures.well_formed c.record.ensures.lawful

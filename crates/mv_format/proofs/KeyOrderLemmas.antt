@@ -9,12 +9,11 @@ use Rattle.mv_json.specs.declared.fault.MessageFault.{MessageFault}
 use Rattle.mv_json.proofs.CallerLemmas.{rises, strictly_sorted}
 use Rattle.mv_repository.specs.declared.effect.Effect.TheVariants.{Uploaded}
 use Rattle.mv_repository.specs.declared.verdict.Joint.TheVariants.{Decided}
-use Rattle.mv_repository.specs.declared.verdict.Verdict.{Verdict}
 use Rattle.mv_repository.specs.declared.verdict.Verdict.TheVariants.{Authentic, NotAuthentic}
 use Rattle.mv_machine.specs.declared.reply.Reply.{Reply}
 use Rattle.mv_machine.specs.declared.reply.Refusal.TheVariants.{Busy}
 use Rattle.mv_format.specs.KeyOrder.{IsOrdered, RepliesAreOrdered}
-use Rattle.mv_format.specs.ReplyLines.{wholes, refused_pack, verdict_value, reply_value, message_fault_value, line_fault_value}
+use Rattle.mv_format.specs.ReplyLines.{wholes, refused_pack, reply_value, message_fault_value, line_fault_value}
 use Rattle.mv_json.specs.declared.fault.MessageFault.TheVariants as message
 use Rattle.mv_machine.specs.declared.reply.Reply.TheVariants as replies
 use Rattle.mv_format.specs.declared.line_fault.LineFault.TheVariants as line
@@ -49,24 +48,20 @@ line_fault_ordered (line.Pack field fault) = pack_ordered None fault (field_name
 line_fault_ordered (line.Message fault) = message_fault_ordered None fault
 line_fault_ordered fault = ordered _ refl (search rules)
 
-verdict_ordered : (verdict : Verdict) → IsOrdered (verdict_value verdict)
-unfolding rises
-verdict_ordered Authentic = ordered _ refl (search rules)
-verdict_ordered (NotAuthentic falsification) = ordered _ refl (search rules)
-
 -- the value of a reply to a step
 reply_ordered : (reply : Reply) → IsOrdered (reply_value reply)
 unfolding rises
-reply_ordered (replies.Routed k reach) = ordered _ refl (wholes_ascend reach, (tt, tt))
-reply_ordered (replies.Known verdict) = verdict_ordered verdict
+reply_ordered (replies.Known Authentic) = ordered _ refl (search rules)
+reply_ordered (replies.Known (NotAuthentic falsification)) = ordered _ refl (search rules)
 reply_ordered (replies.Applied n (Uploaded new old) None) = ordered _ refl (search rules)
 reply_ordered (replies.Applied n (Uploaded new old) (Some answer)) = ordered _ refl (search rules)
 reply_ordered (replies.Applied n effect None) = ordered _ refl (search rules)
 reply_ordered (replies.Applied n effect (Some answer)) = ordered _ refl (search rules)
-reply_ordered (replies.Joint (Decided verdict)) = verdict_ordered verdict
+reply_ordered (replies.Joint (Decided Authentic)) = ordered _ refl (search rules)
+reply_ordered (replies.Joint (Decided (NotAuthentic falsification))) = ordered _ refl (search rules)
 reply_ordered (replies.Refused (Busy party)) = ordered _ refl (search rules)
 reply_ordered (replies.Refused refusal) = ordered _ refl (search rules)
-reply_ordered reply = ordered _ refl (search rules)
+reply_ordered reply = ordered _ refl (search (rules, wholes_ascend))
 
 -- each reply is an object whose keys ascend
 pub replies_are_ordered : RepliesAreOrdered

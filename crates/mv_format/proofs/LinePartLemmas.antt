@@ -6,7 +6,7 @@ use Rattle.serde_json.specs.Read.{number_of}
 use Rattle.mv_json.specs.inside.Parts.{IsOneOf}
 use Rattle.mv_json.proofs.CallerLemmas.{utf8_test}
 use Rattle.mv_format.specs.declared.line_part.LinePart.{LinePart}
-use Rattle.mv_format.specs.inside.LineParts.{Asks, BeginWithEntries, BeginWithPart, HasEntries, IsPart, TellsPart, entry, entry_name}
+use Rattle.mv_format.specs.inside.LineParts.{Asks, asked_by, BeginWithEntries, BeginWithPart, HasEntries, IsPart, TellsPart, entry, entry_name}
 use Rattle.json.specs.Token as token
 use Rattle.mv_format.specs.declared.field.LineField.TheVariants as fields
 use Rattle.mv_format.specs.declared.line_part.LinePart.TheVariants as parts
@@ -66,8 +66,8 @@ part_told entries field (parts.Text text) met = λ value has.
 -- an object that has no other field than those of its kind asks what they do
 pub request_read : (value : Data) (entries : List LineEntry) (kind : LineKind) (request : Request) → HasEntries value entries
     → All (λ met. IsOneOf (fields.Do ∷ (shape_of kind).0) met.field) entries → kind_at value ≡ Ok kind
-    → request_at kind value ≡ Ok request → read_request value ≡ Ok request
-unfolding read_request
+    → asked_by kind value ≡ Ok request → read_request value ≡ Ok request
+unfolding read_request request_at
 request_read value entries kind request has among named asks =
     let (members, is_object, known) = known_only field_name (λ met. met.field) (fields.Do ∷ (shape_of kind).0) has among in
     let opened : as_object value ≡ Some members = ap as_object is_object in

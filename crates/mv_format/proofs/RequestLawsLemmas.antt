@@ -1,7 +1,8 @@
 -- The laws of the line that asks a request: it is read as that request, and what any line asks is legal.
 use Rattle.mv_format.proofs.Words.{AllByRecursion, Asking, Bool, Data, Err, IfOk, IsMarket, Kind, LineFault, LineField, LineKind, List, Ok, Open, Option, Request, Result, Some, Step, Unknown, [], arith, array, as_list, as_number, as_str, as_u64, asked_at, each_back, each_of, items_of, kind_at, list_all, lt-ltb, map, map_err, market_lists_at, member_at, message_at, nat_tests, number_at, of_32_bits, ok_or, option_and_then, read_at, read_is_legal, read_request, reads_back, refl, request_at, shape_of, string, strings, subst, true, ℕ, ◌<◌, ◌^◌, ◌and_then◌, ◌∷◌, ◌≡◌}
 use Rattle.std.specs.Option.{option_map_or}
-use Rattle.std.proofs.lemmas.Bool.{and_parts}
+use Rattle.std.proofs.lemmas.Bool.Decides.{Decides-and}
+use Rattle.std.specs.Bool.{Decides}
 use Rattle.mv_pack.proofs.CallerLemmas.{read_code_is_code, read_code_of, read_gtin_of, read_market_is_market, read_market_of}
 use Rattle.mv_format.specs.RequestLaws.{request_value, IsLegalRequest}
 use Rattle.mv_format.specs.Meanings.{AreMarketLists, meaning_of}
@@ -14,27 +15,28 @@ use Rattle.mv_format.specs.declared.kind.LineKind.TheVariants as kinds
 lists_back : (lists : List (List (List ℕ))) → each_of (as_list as_str) (items_of (map (λ markets. array (strings markets)) lists)) ≡ Some lists
 lists_back = each_back (as_list as_str) (λ markets. array (strings markets)) (each_back as_str string (λ text. refl))
 
-all_pass : {A : Type 0} (P : A → Type 0) (test : A → Bool) → ((x : A) → P x → test x ≡ true) → (xs : List A) → AllByRecursion P xs → list_all test xs ≡ true
-all_pass P test pass [] all = refl
-all_pass P test pass (x ∷ xs) all = rw (pass x all.0) (all_pass P test pass xs all.1)
+-- a test of each member decides what holds of all
+each_decides : {A : Type 0} (P : A → Type 0) (test : A → Bool) → ((x : A) → Decides (test x) (P x)) → (xs : List A)
+    → Decides (list_all test xs) (AllByRecursion P xs)
+each_decides P test decides [] = (λ _. tt, λ _. refl)
+each_decides P test decides (x ∷ xs) = Decides-and (test x) (list_all test xs) (decides x) (each_decides P test decides xs)
 
-are_market_lists : (lists : List (List (List ℕ))) → AreMarketLists lists → list_all (list_all is_market) lists ≡ true
-are_market_lists = all_pass (AllByRecursion IsMarket) (list_all is_market) (all_pass IsMarket is_market (λ market legal. rw (read_market_of market legal)))
+market_decides : (text : List ℕ) → Decides (is_market text) (IsMarket text)
+market_decides text = grind (arith, read_market_is_market, read_market_of)
+
+lists_decide : (lists : List (List (List ℕ))) → Decides (list_all (list_all is_market) lists) (AreMarketLists lists)
+lists_decide = each_decides (AllByRecursion IsMarket) (list_all is_market) (each_decides IsMarket is_market market_decides)
 
 -- each request is read back from its line
 pub requests_read_back : (request : Request) → IsLegalRequest request → read_request (request_value request) ≡ Ok request
 unfolding read_request kind_at request_at read_at message_at market_lists_at number_at
 requests_read_back (Open parties submissions uplink window wire) (legal, (s, (u, (w, (i, _))))) =
-    rw (lists_back parties, are_market_lists parties legal, lt-ltb _ _ s, lt-ltb _ _ u, lt-ltb _ _ w, lt-ltb _ _ i)
+    rw (lists_back parties, (lists_decide parties).1 legal, lt-ltb _ _ s, lt-ltb _ _ u, lt-ltb _ _ w, lt-ltb _ _ i)
 requests_read_back (Step (steps.Submit from message)) (few, (legal, _)) = rw (lt-ltb _ _ few, reads_back message legal)
 requests_read_back (Step (steps.Verify party key)) (gtin, (few, (serial, _))) = rw (read_gtin_of key.gtin gtin, lt-ltb _ _ few, read_code_of key.serial serial)
 requests_read_back (Step (steps.Route from)) (few, _) = rw (lt-ltb _ _ few)
-requests_read_back (Step (steps.Relay from to)) (few, (less, _)) = rw (lt-ltb _ _ few, lt-ltb _ _ less)
-requests_read_back (Step (steps.Apply from to)) (few, (less, _)) = rw (lt-ltb _ _ few, lt-ltb _ _ less)
 requests_read_back (Step (steps.Repeat from to number)) (few, (small, (less, _))) = rw (lt-ltb _ _ few, lt-ltb _ _ small, lt-ltb _ _ less)
-requests_read_back (Step (steps.Close from to)) (few, (less, _)) = rw (lt-ltb _ _ few, lt-ltb _ _ less)
-requests_read_back (Step (steps.Lose from to)) (few, (less, _)) = rw (lt-ltb _ _ few, lt-ltb _ _ less)
-requests_read_back (Step (steps.Verdict party q)) (few, (less, _)) = rw (lt-ltb _ _ few, lt-ltb _ _ less)
+requests_read_back (Step step) (few, (less, _)) = rw (lt-ltb _ _ few, lt-ltb _ _ less)
 
 -- what holds of what a reading gives, where the next step sees to it
 then_gave : {A B : Type 0} (P : A → Type 0) (Q : B → Type 0) (reading : Result A LineFault) (next : A → Result B LineFault)
@@ -46,41 +48,18 @@ then_any : {A B : Type 0} (Q : B → Type 0) (reading : Result A LineFault) (nex
     → ((x : A) → IfOk (next x) Q) → IfOk (reading and_then next) Q
 then_any Q reading next step = grind (arith, nat_tests)
 
--- the same where a fault is made of the one that there was
-error_gave : {A E : Type 0} (P : A → Type 0) (fault_of : E → LineFault) (reading : Result A E) → ((x : A) → reading ≡ Ok x → P x)
-    → IfOk (map_err fault_of reading) P
-error_gave P fault_of reading legal = grind (arith, nat_tests)
-
--- a number has 32 bits
-abbrev Has32Bits : ℕ → Type 0
-Has32Bits n = n < 2 ^ 32
-
-small_gave : (fault : LineFault) (n : Option ℕ) → IfOk (ok_or (option_and_then of_32_bits n) fault) Has32Bits
-small_gave fault n = grind (arith, nat_tests)
-
-market_gave : (text : List ℕ) → is_market text ≡ true → IsMarket text
-market_gave text is = grind (arith, read_market_is_market text text)
-
-each_gave : {A : Type 0} (P : A → Type 0) (test : A → Bool) → ((x : A) → test x ≡ true → P x) → (xs : List A) → list_all test xs ≡ true → AllByRecursion P xs
-each_gave P test gave [] all = tt
-each_gave P test gave (x ∷ xs) all = let parts = and_parts (test x) (list_all test xs) all in (gave x parts.0, each_gave P test gave xs parts.1)
-
-lists_gave : (lists : List (List (List ℕ))) → list_all (list_all is_market) lists ≡ true → AreMarketLists lists
-lists_gave = each_gave (AllByRecursion IsMarket) (list_all is_market) (each_gave IsMarket is_market market_gave)
-
 all_gave : (field : LineField) (lists : List (List (List ℕ))) → IfOk (market_lists field lists) AreMarketLists
-all_gave field lists = grind (arith, lists_gave lists)
+all_gave field lists = grind (arith, (lists_decide lists).0)
 
 -- what a field is read as is legal
 meaning_gave : (field : LineField) (value : Data) → IfOk ((meaning_of field).read value) (meaning_of field).IsLegal
 unfolding read_at message_at market_lists_at number_at
-meaning_gave fields.Gtin value = grind (arith, nat_tests)
-meaning_gave fields.Serial value = grind (arith, nat_tests, error_gave, read_code_is_code, then_any)
-meaning_gave fields.Message value = grind (arith, nat_tests, error_gave, read_is_legal, then_any)
+meaning_gave fields.Serial value = grind (arith, nat_tests, read_code_is_code)
+meaning_gave fields.Message value = grind (arith, nat_tests, read_is_legal)
 meaning_gave fields.Parties value =
     then_any AreMarketLists (member_at fields.Parties value) _
     (λ found. then_any AreMarketLists (ok_or (as_list (as_list as_str) found) (Kind fields.Parties)) _ (all_gave fields.Parties))
-meaning_gave field value = then_any Has32Bits (member_at field value) _ (λ found. small_gave (Kind field) (option_and_then as_u64 (as_number found)))
+meaning_gave field value = grind (arith, nat_tests)
 
 -- what is asked is legal, whatever legal values these fields have
 abbrev AsksLegal : (others : List LineField) → Asking others → Type 0
@@ -94,15 +73,10 @@ asked_gave (field ∷ rest) asks value legal =
 
 kinds_ask : (kind : LineKind) → AsksLegal (shape_of kind).0 (shape_of kind).1
 kinds_ask kinds.Open = λ parties legal submissions s uplink u window w wire i. (legal, (s, (u, (w, (i, tt)))))
-kinds_ask kinds.Submit = λ from small message legal. (small, (legal, tt))
 kinds_ask kinds.Route = λ from small. (small, tt)
-kinds_ask kinds.Relay = λ from small to less. (small, (less, tt))
-kinds_ask kinds.Apply = λ from small to less. (small, (less, tt))
 kinds_ask kinds.Repeat = λ from small number less to few. (small, (less, (few, tt)))
-kinds_ask kinds.Close = λ from small to less. (small, (less, tt))
-kinds_ask kinds.Lose = λ from small to less. (small, (less, tt))
 kinds_ask kinds.Verify = λ gtin legal party small serial coded. (legal, (small, (coded, tt)))
-kinds_ask kinds.Verdict = λ party small q less. (small, (less, tt))
+kinds_ask kind = λ first legal second lawful. (legal, (lawful, tt))
 
 request_gave : (kind : LineKind) (value : Data) → IfOk (request_at kind value) IsLegalRequest
 unfolding request_at

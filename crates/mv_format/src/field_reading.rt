@@ -45,10 +45,7 @@ pub(crate) fn text_of<'a>(object: LineObject<'a>, field: LineField) -> Result<&'
 pub(crate) fn gtin_of(object: LineObject<'_>, field: LineField) -> Result<Gtin, LineFault>
     ensures { MayGive (read_at read_gtin field) object.entry result }
 {
-    match Gtin::read(text_of(object, field)?) {
-        Ok(gtin) => Ok(gtin),
-        Err(fault) => Err(LineFault::Pack(field, fault)),
-    }
+    Gtin::read(text_of(object, field)?).map_err(|fault| LineFault::Pack(field, fault))
 }
 
 /// The serial number of a field: M3, M5, M6.
@@ -56,10 +53,7 @@ pub(crate) fn gtin_of(object: LineObject<'_>, field: LineField) -> Result<Gtin, 
 pub(crate) fn serial_of(object: LineObject<'_>, field: LineField) -> Result<Serial, LineFault>
     ensures { MayGive (read_at read_code field) object.entry result }
 {
-    match Serial::read(text_of(object, field)?) {
-        Ok(serial) => Ok(serial),
-        Err(fault) => Err(LineFault::Pack(field, fault)),
-    }
+    Serial::read(text_of(object, field)?).map_err(|fault| LineFault::Pack(field, fault))
 }
 
 /// The whole number of a field, up to 4,294,967,295: M3, M5.

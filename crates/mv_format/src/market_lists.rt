@@ -123,8 +123,5 @@ fn market_in(value: &Value, field: LineField) -> Result<Market, LineFault>
     ensures { result ≡ market_item field (view value.now) }
 {
     let text = value.as_str().ok_or(LineFault::Kind(field))?;
-    match Market::read(text) {
-        Ok(market) => Ok(market),
-        Err(fault) => Err(LineFault::Pack(field, fault)),
-    }
+    Market::read(text).map_err(|fault| LineFault::Pack(field, fault))
 }

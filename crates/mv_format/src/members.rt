@@ -1,7 +1,7 @@
 //! Writes the objects that replies are, member by member.
 
 ghost use Rattle.std.specs.Prelude.{◌≡◌, ◌++◌, IfOk};
-ghost use Rattle.mv_format.specs.Words.{object, value_of};
+ghost use Rattle.mv_format.specs.Words.{object};
 ghost use Rattle.mv_format.specs.Writing.{Adds, Appended, change_value, national_value, members_of};
 ghost use Rattle.mv_format.specs.inside.Writing.{member_tokens};
 
@@ -71,6 +71,7 @@ pub fn append_object(
 }
 
 /// Writes the object of these members, which come in byte order of their keys.
+#[tactic(auto, using(std::proofs::lemmas::Grind::common_steps, crate::proofs::WritingLemmas::bracketed, crate::proofs::WritingLemmas::object_is))]
 pub(crate) fn write_object(writer: &mut Writer, members: &[Member<'_>]) -> Result<(), AllocError>
     ensures before { writer.new.before ≡ writer.old.before }
     ensures added { Adds result writer.old writer.new (object (members_of members.now)) }
@@ -121,7 +122,7 @@ fn write_member(writer: &mut Writer, member: Member<'_>) -> Result<(), AllocErro
         }
         Member::Message(key, message) => {
             writer.key(key)?;
-            write_message(writer, message)
+            mv_json::write_message(writer, message)
         }
         Member::National(key, national) => {
             writer.key(key)?;
@@ -163,13 +164,4 @@ fn write_change(writer: &mut Writer, change: &Option<Change>, user: &str) -> Res
     writer.key("user")?;
     writer.string(user)?;
     writer.end_object()
-}
-
-/// Writes a message.
-#[tactic(auto, unfolding(crate::specs::Writing::tokens_of))]
-fn write_message(writer: &mut Writer, message: &Message) -> Result<(), AllocError>
-    ensures before { writer.new.before ≡ writer.old.before }
-    ensures added { Adds result writer.old writer.new (value_of message.now) }
-{
-    mv_json::write_message(writer, message)
 }

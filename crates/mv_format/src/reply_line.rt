@@ -5,7 +5,7 @@ ghost use Rattle.serde_json.specs.Written.{compact_text};
 ghost use Rattle.mv_format.specs.Objects.{object_of};
 ghost use Rattle.mv_format.specs.Words.{string};
 ghost use Rattle.mv_format.specs.Writing.{Adds, Appended};
-ghost use Rattle.mv_format.specs.ReplyLines.{answer_value, number_where, numbered, place_of, refused, refused_field, refused_pack, message_fault_value, line_fault_value, refusal_value, verdict_value, reply_value};
+ghost use Rattle.mv_format.specs.ReplyLines.{answer_value, number_where, numbered, place_of, refused, refused_field, refused_pack, message_fault_value, line_fault_value, reply_value};
 
 use crate::members::Member::{Flag, Number, NumberOrNone, Parties, Text};
 use crate::members::{Object, write_object};
@@ -80,7 +80,7 @@ impl ToJson for Reply {
                 &[Parties("reach", reach), Number("routed", u64::from(*k))],
             ),
             Reply::Relayed { number } => write_numbered(writer, "relayed", *number),
-            Reply::Known(verdict) => write_verdict(writer, *verdict),
+            Reply::Known(verdict) => write_verdict(writer, Joint::Decided(*verdict)),
             Reply::Asked { q } => write_numbered(writer, "asked", *q),
             Reply::Applied {
                 number,
@@ -98,8 +98,12 @@ impl ToJson for Reply {
             Reply::Repeated { number } => write_numbered(writer, "repeated", *number),
             Reply::Closed => write_object(writer, &[Flag("closed", true)]),
             Reply::Lost { number } => write_numbered(writer, "lost", *number),
-            Reply::Joint(verdict) => write_joint(writer, *verdict),
-            Reply::Refused(refusal) => write_refusal(writer, *refusal),
+            Reply::Joint(verdict) => write_verdict(writer, *verdict),
+            Reply::Refused(Refusal::Busy(party)) => write_object(
+                writer,
+                &[Number("party", u64::from(*party)), Text("refused", "S6")],
+            ),
+            Reply::Refused(refusal) => write_refused(writer, refusal.code(), None),
         }
     }
 }
@@ -190,43 +194,22 @@ fn write_applied(
     ensures added { Adds result writer.old writer.new
         (reply_value (Reply.Applied number effect answer)) }
 {
-    let answer = NumberOrNone("answer", answer.map(u64::from));
-    let applied = Number("applied", u64::from(number));
-    let effected = Text("effect", effect.code());
-    match effect {
-        Effect::Uploaded { new, old } => write_object(
-            writer,
-            &[
-                answer,
-                applied,
-                effected,
-                Number("new", new),
-                Number("old", old),
-            ],
-        ),
-        _ => write_object(writer, &[answer, applied, effected]),
-    }
+    let (new, old) = match effect {
+        Effect::Uploaded { new, old } => (Some(new), Some(old)),
+        _ => (None, None),
+    };
+    let members = [
+        NumberOrNone("answer", answer.map(u64::from)),
+        Number("applied", u64::from(number)),
+        Text("effect", effect.code()),
+        NumberOrNone("new", new),
+        NumberOrNone("old", old),
+    ];
+    write_object(writer, &members)
 }
 
-/// Writes a verdict on a pack.
-fn write_verdict(writer: &mut Writer, verdict: Verdict) -> Result<(), AllocError>
-    ensures before { writer.new.before ≡ writer.old.before }
-    ensures added { Adds result writer.old writer.new (verdict_value verdict) }
-{
-    match verdict {
-        Verdict::Authentic => write_object(writer, &[Text("verdict", "authentic")]),
-        Verdict::NotAuthentic { falsification } => write_object(
-            writer,
-            &[
-                Flag("falsification", falsification),
-                Text("verdict", "not authentic"),
-            ],
-        ),
-    }
-}
-
-/// Writes the verdict of all that were asked.
-fn write_joint(writer: &mut Writer, verdict: Joint) -> Result<(), AllocError>
+/// Writes a verdict on a pack: of all parties that were asked, or of the one repository that holds it.
+fn write_verdict(writer: &mut Writer, verdict: Joint) -> Result<(), AllocError>
     ensures before { writer.new.before ≡ writer.old.before }
     ensures added { Adds result writer.old writer.new (reply_value (Reply.Joint verdict)) }
 {
@@ -236,22 +219,16 @@ fn write_joint(writer: &mut Writer, verdict: Joint) -> Result<(), AllocError>
             writer,
             &[Number("left", u64::from(left)), Text("verdict", "pending")],
         ),
-        Joint::Decided(verdict) => write_verdict(writer, verdict),
-    }
-}
-
-/// Writes the refusal of a step.
-fn write_refusal(writer: &mut Writer, refusal: Refusal) -> Result<(), AllocError>
-    ensures before { writer.new.before ≡ writer.old.before }
-    ensures added { Adds result writer.old writer.new (refusal_value refusal) }
-{
-    let code = refusal.code();
-    match refusal {
-        Refusal::Busy(party) => write_object(
+        Joint::Decided(Verdict::Authentic) => {
+            write_object(writer, &[Text("verdict", "authentic")])
+        }
+        Joint::Decided(Verdict::NotAuthentic { falsification }) => write_object(
             writer,
-            &[Number("party", u64::from(party)), Text("refused", code)],
+            &[
+                Flag("falsification", falsification),
+                Text("verdict", "not authentic"),
+            ],
         ),
-        _ => write_refused(writer, code, None),
     }
 }
 

@@ -1,9 +1,8 @@
 //! What a line asks.
-#![tactic(auto, unfolding(crate::specs::Requests::request_at))]
 
 ghost use Rattle.mv_format.specs.Words.{GivesOr, view};
-ghost use Rattle.mv_format.specs.inside.LineParts.{MayGive};
-ghost use Rattle.mv_format.specs.Requests.{request_at, read_request, read_line};
+ghost use Rattle.mv_format.specs.inside.LineParts.{MayGive, asked_by};
+ghost use Rattle.mv_format.specs.Requests.{read_request, read_line};
 
 use crate::field_reading::{gtin_of, message_of, number_of, serial_of};
 use crate::kind::{LineKind, kind_of};
@@ -68,7 +67,7 @@ impl Request {
     }
 
     /// What the value of a line asks.
-    #[tactic(auto, unfolding(crate::specs::Requests::read_request))]
+    #[tactic(auto, unfolding(crate::specs::Requests::read_request, crate::specs::Requests::request_at))]
     fn from_value(alloc: Global, value: &Value) -> Result<Request, LineFault>
         ensures { GivesOr result (read_request (view value.now)) LineFault.Memory }
     {
@@ -87,7 +86,7 @@ impl Request {
         kind: LineKind,
         object: LineObject<'_>,
     ) -> Result<Request, LineFault>
-        ensures { MayGive (request_at kind) object.entry result }
+        ensures { MayGive (asked_by kind) object.entry result }
     {
         match kind {
             LineKind::Open => Request::open_of(alloc, object),
@@ -129,7 +128,7 @@ impl Request {
 
     /// The opening that the fields of a line ask. It is read of a value alone.
     fn open_of(alloc: Global, object: LineObject<'_>) -> Result<Request, LineFault>
-        ensures { MayGive (request_at LineKind.Open) object.entry result }
+        ensures { MayGive (asked_by LineKind.Open) object.entry result }
     {
         let LineObject::Value(value) = object else {
             return Err(LineFault::Memory);
@@ -145,7 +144,7 @@ impl Request {
 
     /// The verifying of a pack that the fields of a line ask.
     fn verify_of(object: LineObject<'_>) -> Result<Request, LineFault>
-        ensures { MayGive (request_at LineKind.Verify) object.entry result }
+        ensures { MayGive (asked_by LineKind.Verify) object.entry result }
     {
         let gtin = gtin_of(object, LineField::Gtin)?;
         let party = number_of(object, LineField::Party)?;

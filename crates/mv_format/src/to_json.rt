@@ -35,6 +35,7 @@ pub fn append_json<T: ToJson>(alloc: Global, out: &mut Vec<u8>, value: &T) -> Re
 }
 
 /// Writes a list of values.
+#[tactic(auto, using(std::proofs::lemmas::Grind::common_steps, crate::proofs::WritingLemmas::bracketed, crate::proofs::WritingLemmas::list_is))]
 pub(crate) fn write_list<T: ToJson>(writer: &mut Writer, items: &[T]) -> Result<(), AllocError>
     ensures before { writer.new.before ≡ writer.old.before }
     ensures added { Adds result writer.old writer.new (array (items_of (map T.value items.now))) }

@@ -112,39 +112,18 @@ fn take_part<'a>(alloc: Global, reader: &mut Reader<'a>, field: LineField) -> Op
     ensures { IfSome result (λ part. BeginWithPart reader.old part reader.new) }
 {
     match field {
-        LineField::Do | LineField::Gtin | LineField::Serial => take_text_part(reader),
-        LineField::Message => take_shared_message(alloc, reader),
-        LineField::From | LineField::Number | LineField::Party | LineField::Q | LineField::To =>
-            take_number(reader),
-        LineField::Parties
-        | LineField::Submissions
-        | LineField::Uplink
-        | LineField::Window
-        | LineField::Wire => None,
+        LineField::Do | LineField::Gtin | LineField::Serial => {
+            let text = take_text(reader)?;
+            Some(LinePart::Text(text))
+        }
+        LineField::Message => {
+            let message = Shared::new(alloc, take_message(alloc, reader)?).ok()?;
+            Some(LinePart::Message(message))
+        }
+        LineField::From | LineField::Number | LineField::Party | LineField::Q | LineField::To => {
+            let number = u32::try_from(take_whole(reader)?).ok()?;
+            Some(LinePart::Number(number))
+        }
+        _ => None,
     }
-}
-
-/// Takes a text.
-fn take_text_part<'a>(reader: &mut Reader<'a>) -> Option<LinePart<'a>>
-    ensures { IfSome result (λ part. BeginWithPart reader.old part reader.new) }
-{
-    let text = take_text(reader)?;
-    Some(LinePart::Text(text))
-}
-
-/// Takes a whole number of 32 bits.
-fn take_number<'a>(reader: &mut Reader<'a>) -> Option<LinePart<'a>>
-    ensures { IfSome result (λ part. BeginWithPart reader.old part reader.new) }
-{
-    let number = u32::try_from(take_whole(reader)?).ok()?;
-    Some(LinePart::Number(number))
-}
-
-/// Takes a message.
-fn take_shared_message<'a>(alloc: Global, reader: &mut Reader<'a>) -> Option<LinePart<'a>>
-    ensures { IfSome result (λ part. BeginWithPart reader.old part reader.new) }
-{
-    let message = take_message(alloc, reader)?;
-    let message = Shared::new(alloc, message).ok()?;
-    Some(LinePart::Message(message))
 }

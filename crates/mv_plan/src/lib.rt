@@ -1,7 +1,7 @@
 //! The plan of `work`: what the lines of an input ask to be carried out, or the refusal of the first line that is refused.
 //!
-//! The program's inside is its user. The contract: [`read_plan`] reads all lines of an input, and gives what they plan by the
-//! definitions in `specs/`, or why it has not read them. A plan that it gives can be run. This crate knows no thread, no
+//! The inside of the program, `mv_tool`, uses it. The contract: [`read_plan`] reads all lines of an input, and gives what they
+//! plan by the definitions in `specs/`, or why it has not read them. A plan that it gives can be run. This crate knows no thread, no
 //! end, and nothing of how a plan is run.
 //!
 //! It can be used alone, with the crates that its line of crates.txt names.

@@ -1,7 +1,7 @@
 //! The report of a run: what is gathered of its ends, as a table of texts.
 //!
-//! The program's inside is its user. The contract: [`report`] writes `report_text` of the state that an outcome is, by the
-//! definitions in `specs/`. This crate knows no plan, no thread and no line.
+//! The inside of the program, `mv_tool`, uses it. The contract: [`report`] writes `report_text` of the state that an outcome is,
+//! by the definitions in `specs/`. This crate knows no plan, no thread and no line.
 //!
 //! It can be used alone, with the crates that its line of crates.txt names.
 //! A caller that compares a report, proved in the gate (`thread_rows`):

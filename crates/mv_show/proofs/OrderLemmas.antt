@@ -1,5 +1,5 @@
 -- The keys of shown lines ascend.
-use Rattle.mv_show.proofs.Words.{ℕ, List, LogEntry, None, Option, PackKey, Some, State, refl, rules}
+use Rattle.mv_show.proofs.Words.{ℕ, List, None, Option, Some, refl, rules}
 use Rattle.std.specs.Option.{option_map_or}
 use Rattle.std.specs.Prelude.{option_map}
 use Rattle.mv_json.proofs.CallerLemmas.{keys_ascend, rises}
@@ -9,12 +9,9 @@ use Rattle.serde_json.specs.Data.{null}
 use Rattle.mv_message.specs.declared.message.Message.{Message}
 use Rattle.mv_format.proofs.CallerLemmas.{ordered, wholes_ascend}
 use Rattle.mv_format.specs.KeyOrder.{IsOrdered}
-use Rattle.mv_format.specs.Objects.{object_of}
 use Rattle.mv_format.specs.Writing.{change_value, national_value}
-use Rattle.mv_pack.specs.declared.key.BatchKey.{BatchKey}
 use Rattle.mv_repository.specs.declared.held.Change.{Change}
-use Rattle.mv_repository.specs.declared.held.Held.{Held}
-use Rattle.mv_show.specs.Shown.{RowsAreOrdered, link_row, pack_row, party_row, product_row, recall_row}
+use Rattle.mv_show.specs.Shown.{RowsAreOrdered}
 
 -- where there is a message, the keys of its value ascend
 message_ascends : {A : Type 0} (f : A → Message) (given : Option A) → KeysAscend (option_map_or value_of (option_map f given) null)
@@ -33,26 +30,13 @@ national_ascends : (national : Option (List ℕ)) → KeysAscend (national_value
 national_ascends None = tt
 national_ascends (Some text) = tt
 
-party_ordered : (st : State) (party : ℕ) → IsOrdered (object_of (party_row st party))
-unfolding rises
-party_ordered st party = ordered _ refl (search rules)
-
-product_ordered : (party : ℕ) (log : List LogEntry) (gtin : List ℕ) → IsOrdered (object_of (product_row party log gtin))
-unfolding rises
-product_ordered party log gtin = ordered _ refl (search (rules, message_ascends))
-
-recall_ordered : (party : ℕ) (key : BatchKey) → IsOrdered (object_of (recall_row party key))
-unfolding rises
-recall_ordered party key = ordered _ refl (search rules)
-
-pack_ordered : (party : ℕ) (log : List LogEntry) (key : PackKey) (held : Held) → IsOrdered (object_of (pack_row party log key held))
-unfolding rises
-pack_ordered party log key held = ordered _ refl (search (rules, change_ascends, national_ascends))
-
-link_ordered : (st : State) (from to : ℕ) → IsOrdered (object_of (link_row st from to))
-unfolding rises
-link_ordered st from to = ordered _ refl (search (rules, wholes_ascend))
-
 -- each line that shows something is an object whose keys ascend
 pub rows_are_ordered : RowsAreOrdered
-rows_are_ordered = (party_ordered, product_ordered, recall_ordered, pack_ordered, link_ordered)
+unfolding rises
+rows_are_ordered = (
+  λ st party. ordered _ refl (search rules),
+  λ party log gtin. ordered _ refl (search (rules, message_ascends)),
+  λ party key. ordered _ refl (search rules),
+  λ party log key held. ordered _ refl (search (rules, change_ascends, national_ascends)),
+  λ st from to. ordered _ refl (search (rules, wholes_ascend)),
+)

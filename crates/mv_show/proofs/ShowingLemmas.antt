@@ -12,9 +12,8 @@ use Rattle.mv_show.specs.Showing.{IsPassed, Unshown}
 -- lines to which nothing is written have no text
 no_texts : (before : Open) (lines : List Line) (texts : List (Option (List ℕ))) (after : Open) → AreReplies IsPassed before lines texts after → said_texts texts ≡ []
 no_texts before [] [] after same = refl
-no_texts before [] (text ∷ texts) after none = absurd none
-no_texts before (line ∷ lines) [] after none = absurd none
 no_texts before (line ∷ lines) (text ∷ texts) after (between, passed, rest) = search (rules, no_texts between lines texts after rest)
+no_texts before lines texts after none = absurd none
 
 silent : (before : Open) (ps : List (List ℕ)) (after : Open) (out : List ℕ) → AreAnswered IsPassed 0 before ps after out → AreAnswered IsPassed 0 before ps after []
 silent before ps after out answered = search (rules, no_texts)
@@ -49,35 +48,23 @@ not_shown fault before input rest old new contents other none (bytes, took, ende
     (bytes, took, ended_in_silence fault None bytes rest old new contents other (rw none at ended), Appends-nil contents)
 
 -- memory may be refused before anything was taken
+stopped_at_once : (bytes : List ℕ) → StoppedAt IsPassed Memory [] 0 None bytes (whole_from [] bytes) None []
+stopped_at_once bytes = record {
+  good = [];
+  bad = bytes;
+  cut = refl;
+  why = tt;
+  unanswered = whole_from [] bytes;
+  parted = refl;
+  behind = None;
+  answered = record { kept = record { few = omega (arith); short = λ k d below. omega (arith, below) }; replied = ([], refl, refl) };
+  left = inl refl;
+  left_alone = λ other. refl;
+}
+
 pub refused_at_once : (input rest contents : Option (List ℕ)) (bytes : List ℕ) → Consumes input rest bytes → Unshown Memory input rest contents contents
-refused_at_once input rest contents bytes took = inl (
-  bytes,
-  took,
-  (
-    None,
-    (
-      whole_from [] bytes,
-      inl refl,
-      (
-        [],
-        Appends-nil contents,
-        record {
-          good = [];
-          bad = bytes;
-          cut = refl;
-          why = tt;
-          unanswered = whole_from [] bytes;
-          parted = refl;
-          behind = None;
-          answered = record { kept = record { few = omega (arith); short = λ k d below. omega (arith, below) }; replied = ([], refl, refl) };
-          left = inl refl;
-          left_alone = λ other. refl;
-        },
-      ),
-    ),
-  ),
-  Appends-nil contents,
-)
+refused_at_once input rest contents bytes took =
+    inl (bytes, took, (None, (whole_from [] bytes, inl refl, ([], Appends-nil contents, stopped_at_once bytes))), Appends-nil contents)
 
 -- memory was refused once the input was taken whole, and nothing was written
 pub memory_refused : {A : Type 0} (r : Result A ServeFault) (input rest contents : Option (List ℕ)) → IfErr r (λ fault. fault ≡ Memory)

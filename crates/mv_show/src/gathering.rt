@@ -27,6 +27,7 @@ pub(crate) fn shown_lines(alloc: Global, world: Option<&World>) -> Result<Lines,
 }
 
 /// Adds the lines of a system: those of each party, and then those of each link.
+#[tactic(auto, using(crate::proofs::GatheringLemmas::texts_more, crate::proofs::GatheringLemmas::rows_more, std::proofs::Common::append_assoc))]
 fn append_world(lines: &mut Lines, world: &World) -> Result<(), AllocError>
     ensures { OnOk result (lines.new ≡ lines.old ++ lines_text (shown_rows (Some world.now))) }
 {
@@ -41,15 +42,14 @@ fn append_world(lines: &mut Lines, world: &World) -> Result<(), AllocError>
 }
 
 /// Adds the lines of a party.
+#[tactic(auto, using(crate::proofs::GatheringLemmas::text_of_rows, std::proofs::Common::take_all))]
 fn append_party(lines: &mut Lines, world: &World, party: Party) -> Result<(), AllocError>
     requires { IsTrue (is_party world.now party) }
     ensures { OnOk result (lines.new ≡ lines.old ++ lines_text (party_rows world.now party)) }
 {
     let subjects = subjects_of(lines.alloc, world.log(party))?;
-    let mut left = subjects.as_slice();
-    while let [subject, rest @ ..] = left {
+    for subject in subjects.as_slice() {
         append_subject(lines, world, party, subject)?;
-        left = rest;
     }
     Ok(())
 }

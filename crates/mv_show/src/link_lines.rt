@@ -14,6 +14,7 @@ use mv_system::World;
 use std::alloc::{AllocError, Global};
 
 /// Writes the lines of the links from a party behind those that stand ready.
+#[tactic(auto, using(crate::proofs::GatheringLemmas::rows_more, std::proofs::Common::append_assoc))]
 pub(crate) fn append_links(lines: &mut Lines, world: &World, from: Party) -> Result<(), AllocError>
     requires { IsTrue (is_party world.now from) }
     ensures { OnOk result (lines.new ≡ lines.old ++ lines_text (flat_map (link_rows world.now from)

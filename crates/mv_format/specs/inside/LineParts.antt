@@ -1,7 +1,7 @@
 -- What stands in the fields of a line, as they are met in its object; the tokens of JSON that it is read from; and what reading lists
 -- of markets gives, one member after the other.
 use Rattle.std.specs.Prelude.{ℕ, if◌then◌else◌, is_some, List, [], ◌∷◌, ◌++◌, Result, Ok, Err, ok_or, ◌≡◌, ◌<◌, ◌^◌}
-use Rattle.mv_format.specs.Words.{Data, Items, Kind, LineFault, LineField, Pack, as_array, as_list, as_str, each_of, item, map_err, no_items, read_market, ◌and_then◌, GivesOr, Memory, Request, Token, read_message, string, view, whole}
+use Rattle.mv_format.specs.Words.{Data, Items, Kind, LineFault, LineField, LineKind, Pack, as_array, as_list, as_str, each_of, item, map_err, no_items, read_market, ◌and_then◌, GivesOr, Memory, Request, Token, read_message, string, view, whole}
 use Rattle.mv_format.specs.Reading.{member_at, message_at, number_at, text_at}
 use Rattle.mv_json.specs.Met.{BeginWith}
 use Rattle.mv_json.specs.inside.Parts.{HasMet}
@@ -9,7 +9,8 @@ use Rattle.mv_format.specs.declared.line_part.LineEntry.{LineEntry}
 use Rattle.mv_format.specs.declared.line_part.LineObject.{LineObject}
 use Rattle.mv_format.specs.declared.line_part.LinePart.{LinePart}
 use Rattle.mv_format.specs.Fields.{field_name}
-use Rattle.mv_format.specs.Requests.{read_request}
+use Rattle.mv_format.specs.Kinds.{shape_of}
+use Rattle.mv_format.specs.Requests.{asked_at, read_request}
 use Rattle.mv_format.specs.declared.field.LineField.TheVariants as fields
 use Rattle.mv_format.specs.declared.line_part.LineObject.TheVariants as objects
 use Rattle.mv_format.specs.declared.line_part.LinePart.TheVariants as parts
@@ -82,6 +83,10 @@ Stands value (objects.Value said) = value ≡ view said.now
 -- a reading of the object gives this, or want of memory stands in its place
 abbrev pub MayGive : {A : Type 0} → (Data → Result A LineFault) → LineObject → Result A LineFault → Type 0
 MayGive reading object result = (value : Data) → Stands value object → GivesOr result (reading value) Memory
+
+-- what the fields of a line of a kind ask, one after the other
+abbrev pub asked_by : LineKind → Data → Result Request LineFault
+asked_by kind value = asked_at (shape_of kind).0 (shape_of kind).1 value
 
 -- the tokens are an object that asks this, then the rest
 abbrev pub Asks : List Token → Request → List Token → Type 0

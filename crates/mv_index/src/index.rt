@@ -2,7 +2,7 @@
 
 ghost use Rattle.std.specs.Prelude.{◌≡◌, ◌<◌, ◌≤◌, ◌+◌, ◌++◌, ◌∷◌, [], ℕ, length, get_or, true, false, IfSome, IfNone, IfOk, IsTrue, ◌↔◌, OnOk, OnErr, ◌^◌};
 ghost use Rattle.mv_index.specs.Hashes.{no_hashes, short_hash};
-ghost use Rattle.mv_index.specs.inside.Chains.{HasPart, IsChained, bucket_of, hashes_of};
+ghost use Rattle.mv_index.specs.inside.Chains.{HasParts, IsChained, bucket_of, hashes_of, parts_of};
 
 use std::alloc::{AllocError, Global};
 use std::hash::{FoldHasher, Hash, Hasher};
@@ -28,31 +28,31 @@ pub(crate) struct Link {
 pub(crate) struct Bucket {
     /// One more than the last of them; 0 where there is none.
     pub(crate) last: u32,
-    /// Which of 32 parts of all hashes the bucket may have some of, a bit for each: so most of what is not there is not looked for.
+    /// Which of 32 parts of all hashes the bucket may have some of, a bit for each: so nearly all that is not there is not looked for.
     pub(crate) parts: u32,
 }
 
 impl Bucket {
-    /// Whether it may have some of the part of all hashes that a hash is of.
-    #[tactic(auto, using(crate::proofs::ChainLemmas::part_is))]
-    fn has_part(&self, hash: u32) -> bool
-        ensures { IsTrue result ↔ HasPart self.now hash }
+    /// Whether it may have some of the parts of all hashes that a hash is of.
+    fn has_parts(&self, hash: u32) -> bool
+        ensures { IsTrue result ↔ HasParts self.now hash }
     {
-        self.parts >> (hash >> 27) & 1 == 1
+        let parts = parts_of(hash);
+        self.parts & parts == parts
     }
 
     /// Puts one more number into it, which has a hash; gives one more than the number before it.
-    #[tactic(auto, using(crate::proofs::ChainLemmas::part_own, crate::proofs::ChainLemmas::part_kept))]
+    #[tactic(auto, using(crate::proofs::ChainLemmas::parts_kept))]
     fn put(&mut self, number: u32, hash: u32) -> u32
         requires { number + 1 < 2 ^ 32 }
         ensures before { result ≡ self.old.last }
         ensures last { self.new.last ≡ number + 1 }
-        ensures own { HasPart self.new hash }
-        ensures kept { (other : ℕ) → HasPart self.old other → HasPart self.new other }
+        ensures own { HasParts self.new hash }
+        ensures kept { (other : ℕ) → HasParts self.old other → HasParts self.new other }
     {
         let before = self.last;
         self.last = number + 1;
-        self.parts |= 1 << (hash >> 27);
+        self.parts |= parts_of(hash);
         before
     }
 }
@@ -66,6 +66,8 @@ pub struct HashIndex {
     buckets: Vec<Bucket>,
     /// For each number its hash, and the number before it in its bucket.
     links: Vec<Link>,
+    /// What [`HashIndex::touch`] saw. Nobody reads it: it is kept, so that no compiler leaves the look out.
+    seen: u32,
 }
 
 impl Model for HashIndex {
@@ -90,6 +92,7 @@ impl HashIndex {
             alloc,
             buckets: Vec::new(alloc),
             links: Vec::new(alloc),
+            seen: 0,
         }
     }
 
@@ -105,7 +108,7 @@ impl HashIndex {
             return None;
         }
         let bucket = self.buckets[bucket_of(hash, self.buckets.len())];
-        if !bucket.has_part(hash) {
+        if !bucket.has_parts(hash) {
             return None;
         }
         let mut at = bucket.last as usize;
@@ -117,6 +120,22 @@ impl HashIndex {
             at = link.before as usize;
         }
         None
+    }
+
+    /// Looks once at the buckets of values that will soon be looked for, so that the processor gets them from memory side by side, and not one
+    /// behind the other. Nothing changes.
+    pub fn touch<T: Hash>(&mut self, soon: &[T])
+        ensures { self.new ≡ self.old }
+    {
+        if self.buckets.is_empty() {
+            return;
+        }
+        let mut seen = 0;
+        for value in soon {
+            let bucket = bucket_of(hash_of(value), self.buckets.len());
+            seen ^= self.buckets[bucket].parts;
+        }
+        self.seen = seen;
     }
 
     /// Gets room for more numbers. It is refused where memory is, or for more than 2^31 numbers. Each number keeps its hash all the same, and
@@ -156,6 +175,13 @@ impl HashIndex {
             number,
         );
     }
+}
+
+/// Of 32 parts of all hashes the two that a hash is of, a bit for each.
+fn parts_of(hash: u32) -> u32
+    ensures { result ≡ parts_of hash }
+{
+    1 << (hash >> 27) | 1 << (hash >> 22 & 31)
 }
 
 /// The bucket of a hash, by the number of buckets.

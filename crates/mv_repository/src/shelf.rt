@@ -186,6 +186,7 @@ impl Shelf {
             return Err(AllocError);
         }
         self.slots.reserve(serials.len())?;
+        self.slots.touch(serials);
         // All room is got: nothing fails from here on. A track that finds no memory to be listed by makes the listing not whole.
         let mut new = 0;
         for index in 0..serials.len() {

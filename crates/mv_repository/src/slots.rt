@@ -148,6 +148,13 @@ impl Slots {
         self.slots.reserve(additional)
     }
 
+    /// Looks once at where serial numbers stand that will soon be looked for. Nothing changes.
+    pub fn touch(&mut self, soon: &[Serial])
+        ensures { self.new ≡ self.old }
+    {
+        self.index.touch(soon);
+    }
+
     /// Writes the slot of a pack where its serial number stands, or behind all.
     pub fn put(&mut self, spot: Spot, slot: Slot)
         requires room { 0 < self.old.room }

@@ -1,6 +1,5 @@
 -- How an index finds its numbers: those of one bucket are chained, from the last to the first.
-use Rattle.std.specs.Prelude.{◌≡◌, ◌≢◌, ◌<◌, ◌≤◌, ◌-◌, ◌/◌, ◌^◌, ◌==◌, if◌then◌else◌, ℕ, List, length, get_or, map, min, bit_and}
-use Rattle.std.specs.Int.{bit_at}
+use Rattle.std.specs.Prelude.{◌≡◌, ◌≢◌, ◌<◌, ◌≤◌, ◌-◌, ◌/◌, ◌%◌, ◌^◌, ◌==◌, if◌then◌else◌, ℕ, List, length, get_or, map, min, bit_and, bit_or}
 use Rattle.mv_index.specs.declared.index.Bucket.{Bucket}
 use Rattle.mv_index.specs.declared.index.Link.{Link}
 use Rattle.mv_index.specs.declared.index.TheConstants.{MOST_NUMBERS}
@@ -16,12 +15,14 @@ room_of buckets count capacity = if buckets == 0 then 0 else min capacity MOST_N
 abbrev pub bucket_of : ℕ → ℕ → ℕ
 bucket_of buckets hash = bit_and hash (buckets - 1)
 
--- the part of all hashes that a hash is of, one of 32; a bucket may have some of it
-abbrev pub part_of : ℕ → ℕ
-part_of hash = hash / 2 ^ 27
+-- Of 32 parts of all hashes those that a hash is of, a bit for each: two, by its first five bits and by the next five, or one where these are
+-- the same.
+abbrev pub parts_of : ℕ → ℕ
+parts_of hash = bit_or (2 ^ (hash / 2 ^ 27)) (2 ^ (hash / 2 ^ 22 % 32))
 
-abbrev pub HasPart : Bucket → ℕ → Type 0
-HasPart bucket hash = bit_at bucket.parts (part_of hash) ≡ 1
+-- a bucket may have some of each of these
+abbrev pub HasParts : Bucket → ℕ → Type 0
+HasParts bucket hash = bit_and bucket.parts (parts_of hash) ≡ parts_of hash
 
 -- a link and a bucket where there is none
 abbrev pub no_link : Link
@@ -46,7 +47,7 @@ pub record IsChained (buckets : List Bucket) (links : List Link) (count : ℕ) :
   pub befores : (number : ℕ) → number < count
       → IsLast (length buckets) links (bucket_at (length buckets) links number) (get_or links number no_link).before number
   pub parts : (number : ℕ) → number < count
-      → HasPart (get_or buckets (bucket_at (length buckets) links number) no_bucket) (get_or links number no_link).hash
+      → HasParts (get_or buckets (bucket_at (length buckets) links number) no_bucket) (get_or links number no_link).hash
 
 -- all numbers are chained, and where there are some there are buckets
 pub record IsIndex (buckets : List Bucket) (links : List Link) : Type 0 where

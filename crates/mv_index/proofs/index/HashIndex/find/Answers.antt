@@ -9,8 +9,8 @@ use Rattle.mv_index.proofs.ChainLemmas.{missed, passed}
 use Rattle.mv_index.proofs.index.HashIndex.find.Goals.{else-link-hash-via-then-link-hash+else-is_it, else-link-hash-via-else-link-hash}
 use Rattle.mv_index.proofs.index.HashIndex.find.Goals as goal
 
-pub returns-then-not-has_part-clause-absent : goal.returns-then-not-has_part-clause-absent
-returns-then-not-has_part-clause-absent g c number within e =
+pub returns-then-not-has_parts-clause-absent : goal.returns-then-not-has_parts-clause-absent
+returns-then-not-has_parts-clause-absent g c number within e =
     let links = c.self.inside.links.items in
     let hash = get_or-map (λ (link : Link). link.hash) links number no_link in
     let bucket = get_or_default c.self.inside.buckets.items c.bucket_of.result no_bucket c.index.result.now in

@@ -16,3 +16,7 @@ seat_of hub repos party repo ends below here = subst (λ it. IsSeatOf (hub_seat 
 -- that its seat is that of a party says of how many parties it knows
 pub count_seated : (hub : HubSeat) (party : ℕ) (repo : RepoEnd) → IsSeatOf hub party (repo_seat repo) → repo.site.parties ≡ length hub.parties
 count_seated hub party repo seat = ap (λ (site : SiteState). site.parties) seat.site
+
+-- and how many messages it may submit
+pub limit_seated : (hub : HubSeat) (party : ℕ) (repo : RepoEnd) → IsSeatOf hub party (repo_seat repo) → repo.site.limit ≡ hub.limits.submissions
+limit_seated hub party repo seat = ap (λ (site : SiteState). site.limit) seat.site

@@ -1,6 +1,6 @@
 -- What an outcome shows of its ends, and that the ends of one opening make a lawful one.
 use Rattle.std.proofs.lemmas.Option.{gets}
-use Rattle.mv_ends.proofs.Words.{◌≡◌, ◌<◌, ℕ, zero, suc, List, [], ◌∷◌, length, get_or, slice_index_or, set, ◌+◌, inl, inr, sym, ◌∙◌, refl, subst, arith, ltb-true, IsTrue, nat_tests, length-map, cases_lt, IsSquare, square-replicate, new_site, State, is_party, site_of, opened_site, opening, IsLawful, IsLawfulAt, IsWellFormed, HeadlineHolds, headline, opening-sound, HubEnd, HubSeat, RepoEnd, SameHubEnd, IsUnchanged, hub_seat, repo_seat, SameRepoEnd, IsRepoUnchanged, IsSeatOf, AreEnds, sites_of, state_of, IsOutcome}
+use Rattle.mv_ends.proofs.Words.{◌≡◌, ◌<◌, ℕ, zero, suc, List, [], ◌∷◌, length, get_or, slice_index_or, set, ◌+◌, inl, inr, sym, ◌∙◌, refl, subst, arith, ltb-true, IsTrue, nat_tests, length-map, cases_lt, IsSquare, square-replicate, new_site, State, is_party, site_of, submissions_of, ◌≤◌, opened_site, opening, IsLawful, IsLawfulAt, IsWellFormed, HeadlineHolds, headline, opening-sound, HubEnd, HubSeat, RepoEnd, SameHubEnd, IsUnchanged, hub_seat, repo_seat, SameRepoEnd, IsRepoUnchanged, IsSeatOf, AreEnds, sites_of, state_of, IsOutcome}
 use Rattle.mv_ends.proofs.CallerLemmas.{ends_kept, same_but_one}
 use Rattle.mv_ends.proofs.RingLemmas.{shown_at, shows_same}
 
@@ -18,13 +18,14 @@ headline_of st well_formed lawful =
 pub record IsGathering (st : State) (hub : HubEnd) (repos : List RepoEnd) (found : ℕ) : Type 0 where
   pub ends : AreEnds hub repos
   pub shows : state_of hub repos ≡ st
-  pub each : (party : ℕ) → party < found → IsLawfulAt st.hub party (site_of st party)
+  pub each : (party : ℕ) → party < found → IsLawfulAt st.hub party (site_of st party) × (length (site_of st party).submissions ≤ st.limits.submissions)
 
 -- one more party was found lawful
 pub gathering_more : (st : State) (hub next_hub : HubEnd) (repos : List RepoEnd) (k : ℕ) (old new : RepoEnd) → IsGathering st hub repos k → k < length repos
     → old ≡ slice_index_or repos k old → SameHubEnd hub next_hub → IsUnchanged hub next_hub → SameRepoEnd old new → IsRepoUnchanged old new → IsLawfulAt hub.hub k old.site
+    → length old.site.submissions ≤ hub.limits.submissions
     → IsGathering st next_hub (set repos k new) (k + 1)
-gathering_more st hub next_hub repos k old new was below here same_hub unchanged_hub same unchanged lawful =
+gathering_more st hub next_hub repos k old new was below here same_hub unchanged_hub same unchanged lawful few =
     let sites : sites_of (set repos k new) ≡ sites_of repos = shows_same repos k old new below here (λ (repo : RepoEnd). repo.site) (sites_of repos) refl unchanged.site in
     let site : site_of (state_of hub repos) k ≡ old.site = shown_at repos k old old below here (λ (repo : RepoEnd). repo.site) (sites_of repos) refl (new_site 0 0 0) in
     record {
@@ -34,7 +35,7 @@ gathering_more st hub next_hub repos k old new was below here same_hub unchanged
         | inl before ↦ was.each party before
         | inr after ↦
             let at : party ≡ k = omega arith in
-            rw (at, sym was.shows, site) lawful
+            rw (at, sym was.shows, site) (lawful, few)
       ];
     }
 
@@ -59,6 +60,7 @@ outcome_of st hub repos found was all square = record {
   };
   lawful = record {
     of_record = hub.lawful;
-    of_party = λ party below. subst (λ (it : State). IsLawfulAt it.hub party (site_of it party)) (sym was.shows) (was.each party (omega arith));
+    of_party = λ party below. subst (λ (it : State). IsLawfulAt it.hub party (site_of it party)) (sym was.shows) (was.each party (omega arith)).0;
   };
+  few = λ party below. subst (λ (it : State). length (submissions_of it party) ≤ it.limits.submissions) (sym was.shows) (was.each party (omega arith)).1;
 }

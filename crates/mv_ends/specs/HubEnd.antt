@@ -28,8 +28,10 @@ pub record IsUnchanged (old new : HubEnd) : Type 0 where
   pub taken : new.uplinks.taken ≡ old.uplinks.taken
   pub put : new.wires.put ≡ old.wires.put
 
--- The message was routed that was taken from the uplink: the record gained just that entry, and the reply says so.
+-- The message was routed that was taken from the uplink, since the party may have more routed: the record gained just that entry, and the
+-- reply says so.
 pub record RoutesFront (from : ℕ) (old new : HubEnd) (reply : Reply) : Type 0 where
+  pub below : routed_count old.hub.entries from < old.limits.submissions
   pub message : Message
   pub taken : new.uplinks.taken ≡ with_item old.uplinks.taken from message
   pub put : new.wires.put ≡ old.wires.put

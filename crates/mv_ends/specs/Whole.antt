@@ -1,6 +1,6 @@
 -- All ends of one opening, and what they are as the lists of the list machine.
-use Rattle.std.specs.Prelude.{◌≡◌, ℕ, ◌<◌, List, length, map, slice_index_or}
-use Rattle.mv_ends.specs.Words.{All, SiteState, State, new_site, opening}
+use Rattle.std.specs.Prelude.{◌≡◌, ℕ, ◌<◌, ◌≤◌, List, length, map, slice_index_or}
+use Rattle.mv_ends.specs.Words.{All, SiteState, State, new_site, opening, submissions_of}
 use Rattle.mv_ends.specs.declared.hub_end.HubEnd.{HubEnd}
 use Rattle.mv_ends.specs.declared.repo_end.RepoEnd.{RepoEnd}
 use Rattle.mv_ends.specs.Rings.{Ring}
@@ -30,3 +30,7 @@ sites_of repos = map (λ (repo : RepoEnd). repo.site) repos
 -- the lists that all ends have together. Nothing is under way: what was left on the rings is not taken any more.
 abbrev pub state_of : HubEnd → List RepoEnd → State
 state_of end repos = record (opening end.hub.parties end.limits) { hub = end.hub; sites = sites_of repos }
+
+-- no party submitted more messages than it may
+abbrev pub KeepsSubmissions : State → Type 0
+KeepsSubmissions outcome = (party : ℕ) → party < length outcome.hub.parties → length (submissions_of outcome party) ≤ outcome.limits.submissions

@@ -1,6 +1,6 @@
 //! The hub's end: the hub, the ends of the uplinks that it takes messages from, and those of the links that it puts frames on.
 
-ghost use Rattle.std.specs.Prelude.{◌≡◌, ◌<◌, ℕ, [], length, slice_index_or, Option, None, Some, IfOk, IfSome, IsTrue, false};
+ghost use Rattle.std.specs.Prelude.{◌≡◌, ◌<◌, ◌≤◌, ℕ, [], length, slice_index_or, Option, None, Some, IfOk, IfSome, IsTrue, false};
 ghost use Rattle.mv_ends.specs.Words.{IsFrameOf, IsLawfulAt, IsLawfulRecord, IsSquare, are_parties, items_on, new_hub};
 ghost use Rattle.mv_ends.specs.inside.Valid.{TookAll, AreOfLinks, AreWithin, IsLawfulRecord-prop};
 
@@ -193,14 +193,14 @@ impl HubEnd {
         ensures same { SameHubEnd self.old self.new }
         ensures reply { Closes from to self.old self.new result }
     {
-        match self.hub.close(from, to) {
-            Ok(()) => Reply::Closed,
-            Err(fault) => Reply::Refused(Refusal::from(fault)),
+        if let Err(fault) = self.hub.close(from, to) {
+            return Reply::Refused(Refusal::from(fault));
         }
+        Reply::Closed
     }
 
-    /// Looks at both ends of all rings of a party: the party is lawful beside the hub.
-    #[tactic(auto, using(crate::proofs::LookLemmas::count_seated))]
+    /// Looks at both ends of all rings of a party: the party is lawful beside the hub, and did not submit more than it may.
+    #[tactic(auto, using(crate::proofs::LookLemmas::count_seated, crate::proofs::LookLemmas::limit_seated))]
     pub(crate) fn look_beside(&mut self, party: Party, repo: &mut RepoEnd)
         requires party { party < length self.old.hub.parties }
         requires seat { IsSeatOf (hub_seat self.old) party (repo_seat repo.old) }
@@ -209,8 +209,9 @@ impl HubEnd {
         ensures repo { SameRepoEnd repo.old repo.new }
         ensures unchanged { IsRepoUnchanged repo.old repo.new }
         ensures lawful { IsLawfulAt self.old.hub party repo.old.site }
+        ensures few { length repo.old.site.submissions ≤ self.old.limits.submissions }
     {
-        // The party is lawful: its submissions are looked at for that alone.
+        // The party is lawful, and submitted few: its submissions are looked at for that alone.
         let _ = repo.sub();
         let count = self.hub.parties().len();
         self.uplinks.look_beside(party, &mut repo.uplink);

@@ -3,7 +3,7 @@
 ghost use Rattle.std.specs.Prelude.{◌≡◌, ◌≤◌, length, IsTrue};
 ghost use Rattle.mv_ends.specs.Words.{IsLawful, IsWellFormed, is_party, log_of, opening, submissions_of};
 ghost use Rattle.mv_machine.specs.Headline.{HeadlineHolds};
-ghost use Rattle.mv_ends.specs.Whole.{AreEnds, state_of};
+ghost use Rattle.mv_ends.specs.Whole.{AreEnds, KeepsSubmissions, state_of};
 
 use crate::hub_end::HubEnd;
 use crate::repo_end::RepoEnd;
@@ -44,7 +44,7 @@ impl Model for Outcome {
 }
 
 /// Gathers all ends of one opening, the repositories in order of party, whatever their calls and however these followed one another:
-/// the outcome has the lists of the ends, unchanged, and is lawful. The headline holds of it, from the opening on: with it, two
+/// the outcome has the lists of the ends, unchanged, is lawful, and no party submitted more than it may. The headline holds of it, from the opening on: with it, two
 /// repositories that applied the same messages about a pack agree on it. It takes no memory.
 #[tactic(auto, using(crate::proofs::LookLemmas::seat_of))]
 pub fn gather(mut hub: HubEnd, mut repos: Vec<RepoEnd>) -> Outcome
@@ -52,6 +52,7 @@ pub fn gather(mut hub: HubEnd, mut repos: Vec<RepoEnd>) -> Outcome
     ensures outcome { result ≡ state_of hub repos.items }
     ensures well_formed { IsWellFormed result }
     ensures lawful { IsLawful result }
+    ensures few { KeepsSubmissions result }
     ensures headline { HeadlineHolds (opening result.hub.parties result.limits) result }
 {
     let count = hub.hub().parties().len();
@@ -95,7 +96,7 @@ impl Outcome {
         self.repos[party as usize].sub()
     }
 
-    /// The hub's record, the oldest entry first. Whoever looks at it knows that the headline holds of the outcome, from the
+    /// The hub's record, the oldest entry first. Whoever looks at it knows that no party submitted more than it may, and that the headline holds of the outcome, from the
     /// opening on: what each repository applied from each sender is a prefix of what the record put on their link for the markets
     /// that it serves, in order and each once, and what was routed from a sender is a prefix of what it submitted; the answers
     /// that a party submitted are those that the log of its repository calls for, in order; over no link is anything applied that
@@ -105,6 +106,7 @@ impl Outcome {
         ensures entries { result.now ≡ self.now.hub.entries }
         ensures well_formed { IsWellFormed self.now }
         ensures lawful { IsLawful self.now }
+        ensures few { KeepsSubmissions self.now }
         ensures headline { HeadlineHolds (opening self.now.hub.parties self.now.limits) self.now }
     {
         self.hub.record()

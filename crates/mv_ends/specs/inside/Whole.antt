@@ -8,7 +8,7 @@ use Rattle.mv_ends.specs.HubEnd.{HubSeat}
 use Rattle.mv_ends.specs.RepoEnd.{repo_seat}
 use Rattle.mv_ends.specs.Rings.{Outlet, ring_put}
 use Rattle.mv_ends.specs.inside.Rings.{AreEmpty, Inlet, each_row, ring_taken}
-use Rattle.mv_ends.specs.Whole.{AreEnds, IsSeatOf, sites_of, state_of}
+use Rattle.mv_ends.specs.Whole.{AreEnds, IsSeatOf, KeepsSubmissions, sites_of, state_of}
 
 -- what stays of a hub's end with these parties and ends of rings
 abbrev pub opened_seat : List (List (List ℕ)) → Bounds → List (Inlet Message) → List (Vec (Outlet Frame) Global) → HubSeat
@@ -33,3 +33,4 @@ pub record IsOutcome (end : HubEnd) (repos : List RepoEnd) : Type 0 where
   pub ends : AreEnds end repos
   pub well_formed : IsWellFormed (state_of end repos)
   pub lawful : IsLawful (state_of end repos)
+  pub few : KeepsSubmissions (state_of end repos)

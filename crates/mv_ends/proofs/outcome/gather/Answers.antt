@@ -10,7 +10,7 @@ loop-party-preserved c =
     let below : c.loop-party.party < length repos = omega (arith, c.loop-party-test.true, c.loop-party.invariant.0, was.ends.each) in (
       c.loop-party.invariant.0 ∙ ap (λ (h : HubState). length h.parties) (sym look.hub.hub),
       gathering_more _ c.loop-party.hub c.look_beside.new.self repos c.loop-party.party c.index_mut.result.now c.look_beside.new.repo
-          was below c.index_mut.ensures.value look.same look.hub look.repo look.unchanged look.lawful,
+          was below c.index_mut.ensures.value look.same look.hub look.repo look.unchanged look.lawful look.few,
     )
 
 pub invariant_of-outcome : goal.invariant_of-outcome

@@ -24,6 +24,7 @@ pub returns-in-Ok-clause-reply : goal.returns-in-Ok-clause-reply
 returns-in-Ok-clause-reply c =
     let message = c.front.result.now in
     record {
+      below = search rules;
       message = message;
       taken = rw (c.take-message.ensures.takes, c.is_empty.ensures.nothing, c.take-message.ensures.front message c.front.ensures);
       put = search rules;

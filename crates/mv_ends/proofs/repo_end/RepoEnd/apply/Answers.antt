@@ -43,6 +43,7 @@ returns-in-Ok-apply-clause-reply c =
     let frame = c.front-frame.result.now in
     let all = c.in-Ok.ensures.answer c.in-Ok-apply.ensures.fault ∙ ap (λ (s : SiteState). s.submissions) (sym c.in-Ok-apply.ensures.ok) in
     rw c.of_taken.ensures (apply_taken c.args.from frame.number c.args.self.now _ c.in-Ok-apply.taken record {
+      sender = search rules;
       frame = frame;
       free = taken_freely c.is_full-full.result site c.args.from frame.item _ c.in-Ok-apply.ensures.fault;
       taken = rw (c.take-frame.ensures.takes, c.is_empty.ensures.nothing, c.take-frame.ensures.front frame c.front-frame.ensures);

@@ -1,5 +1,5 @@
 -- What a plan is beside what its run leaves.
-use Rattle.mv_workers.proofs.Words.{AllUnused, AllZip-get_or, AreBegun, Bool, HubSeat, IsBack, IsBegun, IsCarried, IsComplete, IsCrewOf, IsFalse, IsLawful, IsSound, IsTrue, KeepsPlan, List, RepoEnd, SiteState, State, [], ap, arith, ext_get_or, false, get_or, get_or-map, length, length-map, map, nat_tests, new_site, opening, own_among, own_of, refl, repo_seat, site_of, submissions_of, subst, suc, sym, true, zero, ℕ, ◌&&◌, ◌<◌, ◌↔◌, ◌∙◌, ◌∷◌, ◌≡◌}
+use Rattle.mv_workers.proofs.Words.{AllUnused, AllZip-get_or, AreBegun, Bool, HubSeat, IsBack, IsBegun, KeepsSubmissions, IsCarried, IsComplete, IsCrewOf, IsFalse, IsLawful, IsSound, IsTrue, KeepsPlan, List, RepoEnd, SiteState, State, [], ap, arith, ext_get_or, false, get_or, get_or-map, length, length-map, map, nat_tests, new_site, opening, own_among, own_of, refl, repo_seat, site_of, submissions_of, subst, suc, sym, true, zero, ℕ, ◌&&◌, ◌<◌, ◌↔◌, ◌∙◌, ◌∷◌, ◌≡◌}
 use Rattle.mv_machine.specs.Limits.{Bounds}
 use Rattle.mv_machine.proofs.CallerLemmas.{opening-site}
 use Rattle.mv_ends.specs.declared.hub_end.HubEnd.{HubEnd}
@@ -9,8 +9,9 @@ use Rattle.mv_workers.specs.declared.crew.Crew.{Crew}
 use Rattle.mv_workers.specs.declared.crew.CrewEnds.{CrewEnds}
 
 -- ends where nothing has happened are those of these parties, by these limits
-pub fresh_parties : (parties : List (List (List ℕ))) (limits : Bounds) (hub : HubEnd) (repos : List RepoEnd) → state_of hub repos ≡ opening parties limits → (hub.hub.parties ≡ parties) × (hub.limits ≡ limits)
-fresh_parties parties limits hub repos fresh = (ap (λ (it : State). it.hub.parties) fresh, ap (λ (it : State). it.limits) fresh)
+pub fresh_parties : (parties : List (List (List ℕ))) (limits : Bounds) (hub : HubEnd) (repos : List RepoEnd) → state_of hub repos ≡ opening parties limits
+    → (hub.hub.parties ≡ parties) × (hub.limits ≡ limits) × (hub.hub.entries ≡ [])
+fresh_parties parties limits hub repos fresh = (ap (λ (it : State). it.hub.parties) fresh, ap (λ (it : State). it.limits) fresh, ap (λ (it : State). it.hub.entries) fresh)
 
 -- there is an end for each party
 pub ends_each : (parties : List (List (List ℕ))) (limits : Bounds) (hub : HubEnd) (repos : List RepoEnd) → AreEnds hub repos → state_of hub repos ≡ opening parties limits → length repos ≡ length parties
@@ -33,7 +34,7 @@ own_at (repo ∷ repos) (suc party) = own_at repos party
 module _ (plan : Plan) (given turns : ℕ) (same : given ≡ turns) (crew : Crew) (back : CrewEnds) (of_plan : IsCrewOf plan crew) (is_back : IsBack crew given back) (outcome : State)
     (is : outcome ≡ state_of back.hub back.repos.items) where
   parties_kept : outcome.hub.parties ≡ plan.parties
-  parties_kept = ap (λ (it : State). it.hub.parties) is ∙ ap (λ (seat : HubSeat). seat.parties) is_back.hub_is ∙ of_plan.parties
+  parties_kept = ap (λ (it : State). it.hub.parties) is ∙ ap (λ (seat : HubSeat). seat.parties) is_back.hub_is.same ∙ of_plan.parties
 
   own_each : length (map own_of back.repos.items) ≡ length outcome.hub.parties
   own_each = length-map back.repos.items own_of ∙ sym (length-map back.repos.items repo_seat) ∙ ap length is_back.repos
@@ -46,11 +47,13 @@ module _ (plan : Plan) (given turns : ℕ) (same : given ≡ turns) (crew : Crew
   begun = subst (λ n. AreBegun n plan.work back.repos.items back.all) same (subst (λ work. AreBegun given work back.repos.items back.all) of_plan.work is_back.begun)
 
   -- the ends of a crew keep its plan
-  keeps_plan : IsLawful outcome → KeepsPlan plan turns outcome
-  keeps_plan lawful = record {
+  keeps_plan : IsLawful outcome → KeepsSubmissions outcome → KeepsPlan plan turns outcome
+  keeps_plan lawful few = record {
     lawful = lawful;
     parties = parties_kept;
-    limits = ap (λ (it : State). it.limits) is ∙ ap (λ (seat : HubSeat). seat.limits) is_back.hub_is ∙ of_plan.limits;
+    limits = ap (λ (it : State). it.limits) is ∙ ap (λ (seat : HubSeat). seat.limits) is_back.hub_is.same ∙ of_plan.limits;
+    few = few;
+    all_open = λ from to. rw is (is_back.hub_is.still_open from to (rw of_plan.unused refl));
     submitted = λ party below. subst (λ own. IsBegun turns own (get_or plan.work party [])) (own_is party) (AllZip-get_or (IsBegun turns) (map own_of back.repos.items) plan.work party [] [] begun.0 (subst (λ n. party < n) (sym own_each) below));
   }
 
@@ -67,11 +70,11 @@ module _ (plan : Plan) (given turns : ℕ) (same : given ≡ turns) (crew : Crew
             (λ party below. own_is party ∙ (done party (subst (λ n. party < n) own_each below)).0)),
       )
 
-  module _ (sound : IsSound plan) (lawful : IsLawful outcome) (carried : Bool)
+  module _ (sound : IsSound plan) (lawful : IsLawful outcome) (few : KeepsSubmissions outcome) (carried : Bool)
       (means : IsTrue carried ↔ ((party : ℕ) → party < length outcome.hub.parties → IsCarried outcome party)) where
     -- what is judged to be complete is what a run promises
     pub judged_ok : IsTrue (back.all && carried) → IsSound plan × KeepsPlan plan turns outcome × IsComplete plan outcome
-    judged_ok told = (sound, keeps_plan lawful, (complete_by sound carried means).0 told)
+    judged_ok told = (sound, keeps_plan lawful few, (complete_by sound carried means).0 told)
 
     -- and what is not leaves one of the faults
     pub judged_err : IsFalse (back.all && carried) → IsSound plan × KeepsPlan plan turns outcome × (IsComplete plan outcome → ⊥)

@@ -1,5 +1,6 @@
--- What the tries of a turn leave of what a party submitted of its own.
-use Rattle.mv_workers.proofs.Words.{◌≡◌, ℕ, false, List, [], ◌∷◌, ◌++◌, append-nil, refl, ap, arith, option_to_list, nat_tests, Message, Query, Item, LogEntry, SiteState, RepoEnd, IsRepoUnchanged, Puts, Submits, Asks, Applies, own_among, own_of}
+-- What the calls of a turn leave: of what a party submitted of its own, and of which links are open.
+use Rattle.mv_workers.proofs.Words.{◌≡◌, ℕ, false, List, [], ◌∷◌, ◌++◌, append-nil, refl, ap, arith, option_to_list, nat_tests, Message, Query, Item, LogEntry, SiteState, HubEnd, IsLaterHub, Relays, Routes, SameHubEnd, is_open, true, ◌∙◌, RepoEnd, IsRepoUnchanged, Puts, Submits, Asks, Applies, own_among, own_of}
+use Rattle.mv_hub.proofs.CallerLemmas.{is_open-append}
 use Rattle.mv_pack.specs.declared.key.PackKey.{PackKey}
 use Rattle.mv_message.specs.Kinds.{is_query_or_answer}
 use Rattle.mv_link.specs.declared.incoming.Look.{Look}
@@ -38,3 +39,26 @@ own_submitted message old new k submits = grind (arith, nat_tests, own_alone, pu
 
 pub own_asked : (key : PackKey) (old new : RepoEnd) (q : ℕ) → Asks key old new (Asked q) → own_of new ≡ own_of old ++ Query key ∷ []
 own_asked key old new q asks = puts_own (Query key) old new asks.0 refl
+
+-- the hub's end is the same now, with the same links open
+pub no_later : (hub : HubEnd) → IsLaterHub hub hub
+no_later hub = record { same = refl; still_open = λ from to was. was }
+
+-- what is later than a later one is later
+pub later_still : (first old new : HubEnd) → IsLaterHub first old → IsLaterHub old new → IsLaterHub first new
+later_still first old new later still = record { same = still.same ∙ later.same; still_open = λ from to was. still.still_open from to (later.still_open from to was) }
+
+-- a routing closes no link
+routed_open : (from : ℕ) (old new : HubEnd) (reply : Reply) → Routes from old new reply → (a b : ℕ) → is_open old.hub.entries a b ≡ true → is_open new.hub.entries a b ≡ true
+routed_open from old new reply routes a b was = grind (arith, nat_tests, is_open-append)
+
+-- nor does a relay
+relayed_open : (from to : ℕ) (old new : HubEnd) (reply : Reply) → Relays from to old new reply → (a b : ℕ) → is_open old.hub.entries a b ≡ true → is_open new.hub.entries a b ≡ true
+relayed_open from to old new reply relays a b was = grind (arith, nat_tests)
+
+-- so the end is a later one
+pub later_routed : (first old new : HubEnd) (from : ℕ) (reply : Reply) → IsLaterHub first old → SameHubEnd old new → Routes from old new reply → IsLaterHub first new
+later_routed first old new from reply later same routes = later_still first old new later (record { same = same; still_open = routed_open from old new reply routes })
+
+pub later_relayed : (first old new : HubEnd) (from to : ℕ) (reply : Reply) → IsLaterHub first old → SameHubEnd old new → Relays from to old new reply → IsLaterHub first new
+later_relayed first old new from to reply later same relays = later_still first old new later (record { same = same; still_open = relayed_open from to old new reply relays })

@@ -1,13 +1,14 @@
 -- What a run leaves, by its plan, and what is carried out of what a party is to submit.
-use Rattle.std.specs.Prelude.{◌≡◌, ◌<◌, ◌≤◌, ℕ, List, [], length, slice_index_or}
+use Rattle.std.specs.Prelude.{◌≡◌, ◌<◌, ◌≤◌, ℕ, List, [], length, slice_index_or, true}
 use mathlib.Core.List.{IsPrefix}
-use Rattle.mv_hub.specs.Record.{routed_from}
+use Rattle.mv_hub.specs.Record.{is_open, routed_from}
 use Rattle.mv_hub.specs.Hub.{items_on}
 use Rattle.mv_message.specs.declared.message.Message.{Message}
 use Rattle.mv_repository.specs.Repository.{items_from}
 use Rattle.mv_party.specs.Site.{answers_in}
 use Rattle.mv_machine.specs.State.{State, submissions_of, log_of}
 use Rattle.mv_machine.specs.Lawful.{IsLawful}
+use Rattle.mv_ends.specs.Whole.{KeepsSubmissions}
 use Rattle.mv_workers.specs.declared.plan.Plan.{Plan}
 use Rattle.mv_workers.specs.declared.plan.WorkFault.{WorkFault}
 use Rattle.mv_workers.specs.declared.plan.WorkFault.TheVariants as fault
@@ -28,12 +29,14 @@ pub record IsBegun (turns : ℕ) (own list : List Message) : Type 0 where
   pub front : IsPrefix own list
   pub few : length own ≤ turns
 
--- An outcome is one of a plan and of so many turns: it is lawful and has the plan's parties and limits, and the list of each party is
--- begun.
+-- An outcome is one of a plan and of so many turns: it is lawful and has the plan's parties and limits, no party submitted more than these let
+-- it, no link was closed, and the list of each party is begun.
 pub record KeepsPlan (plan : Plan) (turns : ℕ) (outcome : State) : Type 0 where
   pub lawful : IsLawful outcome
   pub parties : outcome.hub.parties ≡ plan.parties
   pub limits : outcome.limits ≡ plan.limits
+  pub few : KeepsSubmissions outcome
+  pub all_open : (from to : ℕ) → is_open outcome.hub.entries from to ≡ true
   pub submitted : (party : ℕ) → party < length outcome.hub.parties
       → IsBegun turns (own_among (submissions_of outcome party)) (slice_index_or plan.work party [])
 

@@ -1,9 +1,8 @@
 //! Starts a worker for each end, and takes the ends back.
 
 ghost use Rattle.std.specs.Prelude.{◌≡◌, ◌≤◌, [], All, map, vec_len, vec_capacity, IfOk, IfSome};
-ghost use Rattle.mv_ends.specs.HubEnd.{SameHubEnd};
 ghost use Rattle.mv_ends.specs.Laws.{AreSameRepos};
-ghost use Rattle.mv_workers.specs.inside.Desks.{AllUnused, IsFurther};
+ghost use Rattle.mv_workers.specs.inside.Desks.{AllUnused, IsFurther, IsLaterHub};
 
 use crate::course::Course;
 use crate::desk::Desk;
@@ -29,12 +28,12 @@ impl Promise<(Desk, bool)> for DeskPromise {
 /// The handle of a repository's worker.
 type RepoHandle = PromisedHandle<(Desk, bool), DeskPromise>;
 
-/// What the hub's worker gives back is that end, and whether it ended for want of memory.
+/// What the hub's worker gives back is that end, with each link as open, and whether it ended for want of memory.
 #[derive(Drop)]
 pub(crate) struct HubPromise(Snapshot<HubEnd>);
 
 impl Promise<(HubEnd, bool)> for HubPromise {
-    ghost kept_by = { λ p r. SameHubEnd p.0.value r.0 };
+    ghost kept_by = { λ p r. IsLaterHub p.0.value r.0 };
 }
 
 /// The handle of the hub's worker.
@@ -163,7 +162,7 @@ impl Crew {
     ) -> CrewEnds
         requires room { (into.items ≡ []) × (vec_len handles ≤ vec_capacity into) }
         requires turns { All (HasTurns shift.now.course.now.turns) handles.items }
-        ensures hub { SameHubEnd hub.promise.0.value result.hub }
+        ensures hub { IsLaterHub hub.promise.0.value result.hub }
         ensures repos { AreSameRepos (map end_of handles.items) result.repos.items }
         ensures begun { AreBegun shift.now.course.now.turns (map work_of handles.items) result.repos.items result.all }
     {
@@ -196,7 +195,7 @@ fn start_hub<'s, E, R: Wait + Sync>(
 {
     let promise = HubPromise(Snapshot::of(&hub));
     let worker = move || -> (HubEnd, bool)
-        ensures { SameHubEnd hub result.0 }
+        ensures { IsLaterHub hub result.0 }
     { hub_turns(rt, course, hub) };
     scope.spawn_with(promise, worker).ok()
 }

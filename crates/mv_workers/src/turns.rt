@@ -1,14 +1,13 @@
 //! The turns of each worker.
 
-ghost use Rattle.mv_ends.specs.HubEnd.{SameHubEnd};
-ghost use Rattle.mv_workers.specs.inside.Desks.{IsFurther};
+ghost use Rattle.mv_workers.specs.inside.Desks.{IsFurther, IsLaterHub};
 
 use crate::course::Course;
 use crate::desk::Desk;
 use crate::gate::Gate;
 use crate::pace::Pace;
 use crate::waiting::Waiting;
-use mv_ends::{HubEnd, hub_end_stays, repo_end_stays};
+use mv_ends::{HubEnd, repo_end_stays};
 use mv_machine::{Refusal, Reply};
 use std::alloc::AllocError;
 use std::sync::Wait;
@@ -43,10 +42,10 @@ pub(crate) fn repo_turns<R: Wait, G: Gate>(
 }
 
 /// A turn of the hub's worker: it routes once from each party, and then relays once on each link on which something may wait.
+#[tactic(auto, using(crate::proofs::TurnLemmas::no_later, crate::proofs::TurnLemmas::later_routed, crate::proofs::TurnLemmas::later_relayed))]
 fn hub_turn(hub: &mut HubEnd, waiting: &mut Waiting, parties: u32) -> Result<bool, AllocError>
-    ensures { SameHubEnd hub.old hub.new }
+    ensures { IsLaterHub hub.old hub.new }
 {
-    hub_end_stays();
     let mut moved = false;
     for from in 0..parties {
         let reply = hub.route(from);
@@ -69,10 +68,10 @@ fn hub_turn(hub: &mut HubEnd, waiting: &mut Waiting, parties: u32) -> Result<boo
 }
 
 /// The turns of the hub's worker. It gives back the hub's end, and whether it ended for want of memory.
+#[tactic(auto, using(crate::proofs::TurnLemmas::no_later, crate::proofs::TurnLemmas::later_still))]
 pub(crate) fn hub_turns<R: Wait>(rt: &R, course: &Course, mut hub: HubEnd) -> (HubEnd, bool)
-    ensures { SameHubEnd hub result.0 }
+    ensures { IsLaterHub hub result.0 }
 {
-    hub_end_stays();
     let mut waiting = Waiting::new();
     let mut pace = Pace::new(course.parties);
     for _turn in 0..course.turns_once_told(rt) {

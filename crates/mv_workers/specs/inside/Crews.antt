@@ -1,10 +1,9 @@
 -- What the ends of a run are before and behind the turns of their workers.
-use Rattle.std.specs.Prelude.{◌≡◌, ◌↔◌, ℕ, Bool, IsTrue, List, map}
+use Rattle.std.specs.Prelude.{◌≡◌, ◌↔◌, ℕ, Bool, IsTrue, List, [], map}
 use Rattle.std.specs.List.{AllZip}
 use Rattle.std.specs.declared.thread.PromisedHandle.{PromisedHandle}
 use Rattle.mv_message.specs.declared.message.Message.{Message}
 use Rattle.mv_ends.specs.declared.repo_end.RepoEnd.{RepoEnd}
-use Rattle.mv_ends.specs.HubEnd.{SameHubEnd}
 use Rattle.mv_ends.specs.Laws.{AreSameRepos}
 use Rattle.mv_ends.specs.Whole.{AreEnds}
 use Rattle.mv_workers.specs.declared.crew.Crew.{Crew}
@@ -14,7 +13,7 @@ use Rattle.mv_workers.specs.declared.desk.Desk.{Desk}
 use Rattle.mv_workers.specs.declared.plan.Plan.{Plan}
 use Rattle.mv_workers.specs.Plans.{IsBegun}
 use Rattle.mv_workers.specs.Work.{lists_of}
-use Rattle.mv_workers.specs.inside.Desks.{IsUnused, own_of, work_at}
+use Rattle.mv_workers.specs.inside.Desks.{IsLaterHub, IsUnused, own_of, work_at}
 
 -- the handle of a repository's worker
 abbrev pub Handle : Type 0
@@ -28,11 +27,12 @@ end_of handle = handle.promise.0.value.end
 abbrev pub work_of : Handle → List Message
 work_of handle = work_at handle.promise.0.value
 
--- the ends are those of a plan's parties, and what each party is to submit is its list
+-- the ends are those of a plan's parties, at the hub's nothing was done, and what each party is to submit is its list
 pub record IsCrewOf (plan : Plan) (crew : Crew) : Type 0 where
   pub ends : AreEnds crew.ends.0 crew.ends.1.items
   pub parties : crew.ends.0.hub.parties ≡ plan.parties
   pub limits : crew.ends.0.limits ≡ plan.limits
+  pub unused : crew.ends.0.hub.entries ≡ []
   pub work : lists_of crew.lists.items ≡ plan.work
 
 -- The worker of a handle has so many turns, and nothing was submitted at its end.
@@ -46,6 +46,6 @@ AreBegun turns work repos all = AllZip (IsBegun turns) (map own_of repos) work �
 
 -- the ends are those of a crew, behind so many turns of its workers
 pub record IsBack (crew : Crew) (turns : ℕ) (back : CrewEnds) : Type 0 where
-  pub hub_is : SameHubEnd crew.ends.0 back.hub
+  pub hub_is : IsLaterHub crew.ends.0 back.hub
   pub repos : AreSameRepos crew.ends.1.items back.repos.items
   pub begun : AreBegun turns (lists_of crew.lists.items) back.repos.items back.all

@@ -59,8 +59,8 @@ Verifies key old new reply = Asks key old new reply × (local_verdict key old.si
 abbrev pub stands_to : SiteState → ℕ → Frame → Look
 stands_to site sender frame = look_at (count_from site.log sender) frame.number
 
--- Just this frame was taken, from the link from a sender, which is a party; the party took it, what it submitted more by that was put on its uplink, and the
--- reply says what it did with the frame.
+-- Just this frame was taken, from the link from a sender, which is one of the parties. The party of this end took it; what it submitted more by
+-- that was put on its uplink, and the reply says what it did with the frame.
 pub record TakesFrame (from : ℕ) (old new : RepoEnd) (reply : Reply) : Type 0 where
   pub sender : from < old.site.parties
   pub frame : Frame

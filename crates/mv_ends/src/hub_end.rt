@@ -211,7 +211,7 @@ impl HubEnd {
         ensures lawful { IsLawfulAt self.old.hub party repo.old.site }
         ensures few { length repo.old.site.submissions ≤ self.old.limits.submissions }
     {
-        // The party is lawful, and submitted few: its submissions are looked at for that alone.
+        // That the party is lawful, and within its limit, is told by its submissions: they are looked at for that alone.
         let _ = repo.sub();
         let count = self.hub.parties().len();
         self.uplinks.look_beside(party, &mut repo.uplink);

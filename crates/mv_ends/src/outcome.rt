@@ -44,8 +44,8 @@ impl Model for Outcome {
 }
 
 /// Gathers all ends of one opening, the repositories in order of party, whatever their calls and however these followed one another:
-/// the outcome has the lists of the ends, unchanged, is lawful, and no party submitted more than it may. The headline holds of it, from the opening on: with it, two
-/// repositories that applied the same messages about a pack agree on it. It takes no memory.
+/// the outcome has the lists of the ends, unchanged, and is lawful. No party submitted more than it may. The headline holds of it, from the
+/// opening on: with it, two repositories that applied the same messages about a pack agree on it. It takes no memory.
 #[tactic(auto, using(crate::proofs::LookLemmas::seat_of))]
 pub fn gather(mut hub: HubEnd, mut repos: Vec<RepoEnd>) -> Outcome
     requires { AreEnds hub repos.items }
@@ -96,8 +96,8 @@ impl Outcome {
         self.repos[party as usize].sub()
     }
 
-    /// The hub's record, the oldest entry first. Whoever looks at it knows that no party submitted more than it may, and that the headline holds of the outcome, from the
-    /// opening on: what each repository applied from each sender is a prefix of what the record put on their link for the markets
+    /// The hub's record, the oldest entry first. Whoever looks at it knows that no party submitted more than it may, and that the headline
+    /// holds of the outcome, from the opening on: what each repository applied from each sender is a prefix of what the record put on their link for the markets
     /// that it serves, in order and each once, and what was routed from a sender is a prefix of what it submitted; the answers
     /// that a party submitted are those that the log of its repository calls for, in order; over no link is anything applied that
     /// was routed after its closing; and two repositories that applied the same messages about a pack, in whatever order these

@@ -53,7 +53,7 @@ module _ (plan : Plan) (given turns : ℕ) (same : given ≡ turns) (crew : Crew
     parties = parties_kept;
     limits = ap (λ (it : State). it.limits) is ∙ ap (λ (seat : HubSeat). seat.limits) is_back.hub_is.same ∙ of_plan.limits;
     few = few;
-    all_open = λ from to. rw is (is_back.hub_is.still_open from to (rw of_plan.unused refl));
+    all_open = λ from to. rw is (is_back.hub_is.still_open from to (rw of_plan.no_entries refl));
     submitted = λ party below. subst (λ own. IsBegun turns own (get_or plan.work party [])) (own_is party) (AllZip-get_or (IsBegun turns) (map own_of back.repos.items) plan.work party [] [] begun.0 (subst (λ n. party < n) (sym own_each) below));
   }
 

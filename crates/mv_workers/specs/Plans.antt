@@ -29,7 +29,7 @@ pub record IsBegun (turns : ℕ) (own list : List Message) : Type 0 where
   pub front : IsPrefix own list
   pub few : length own ≤ turns
 
--- An outcome is one of a plan and of so many turns: it is lawful and has the plan's parties and limits, no party submitted more than these let
+-- An outcome is one of a plan and of so many turns: it is lawful and has the plan's parties and limits. No party submitted more than these let
 -- it, no link was closed, and the list of each party is begun.
 pub record KeepsPlan (plan : Plan) (turns : ℕ) (outcome : State) : Type 0 where
   pub lawful : IsLawful outcome

@@ -28,7 +28,7 @@ impl Promise<(Desk, bool)> for DeskPromise {
 /// The handle of a repository's worker.
 type RepoHandle = PromisedHandle<(Desk, bool), DeskPromise>;
 
-/// What the hub's worker gives back is that end, with each link as open, and whether it ended for want of memory.
+/// What the hub's worker gives back is that end, with each link still open that was open, and whether it ended for want of memory.
 #[derive(Drop)]
 pub(crate) struct HubPromise(Snapshot<HubEnd>);
 

@@ -27,12 +27,12 @@ end_of handle = handle.promise.0.value.end
 abbrev pub work_of : Handle → List Message
 work_of handle = work_at handle.promise.0.value
 
--- the ends are those of a plan's parties, at the hub's nothing was done, and what each party is to submit is its list
+-- the ends are those of a plan's parties, the hub's record is empty, and what each party is to submit is its list
 pub record IsCrewOf (plan : Plan) (crew : Crew) : Type 0 where
   pub ends : AreEnds crew.ends.0 crew.ends.1.items
   pub parties : crew.ends.0.hub.parties ≡ plan.parties
   pub limits : crew.ends.0.limits ≡ plan.limits
-  pub unused : crew.ends.0.hub.entries ≡ []
+  pub no_entries : crew.ends.0.hub.entries ≡ []
   pub work : lists_of crew.lists.items ≡ plan.work
 
 -- The worker of a handle has so many turns, and nothing was submitted at its end.

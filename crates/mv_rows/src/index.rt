@@ -33,7 +33,7 @@ fn numbers(alloc: Global) -> Result<[Option<usize>; 5], AllocError> {
         add(&mut index, &mut names, name, name % 4)?;
     }
     let names = names.as_slice();
-    index.touch(&names[..8]);
+    index.touch(names);
     Ok([
         number_of(&index, names, 0, 0),
         number_of(&index, names, 7, 3),

@@ -4,8 +4,9 @@ ghost use Rattle.std.specs.Prelude.{◌≡◌, ◌<◌, ◌≤◌, ℕ, [], leng
 ghost use Rattle.mv_ends.specs.Words.{IsFrameOf, IsLawfulAt, IsLawfulRecord, IsSquare, are_parties, items_on, new_hub};
 ghost use Rattle.mv_ends.specs.inside.Valid.{TookAll, AreOfLinks, AreWithin, IsLawfulRecord-prop};
 
-use crate::inlets::Inlets;
+use crate::copies::copy_of_frame;
 use crate::parcel::Parcel;
+use crate::parcel::inlets::Inlets;
 use crate::repo_end::RepoEnd;
 use crate::wires::Wires;
 use mv_hub::{Entry, Hub, Parties};
@@ -149,7 +150,7 @@ impl HubEnd {
             Ok(frame) => frame,
             Err(fault) => return Reply::Refused(Refusal::from(fault)),
         };
-        let Ok(parcel) = Parcel::of_frame(self.alloc, &frame) else {
+        let Ok(parcel) = copy_of_frame(self.alloc, &frame) else {
             return Reply::Refused(Refusal::Memory);
         };
         let Ok(relayed) = self.hub.relay(from, to) else {
@@ -177,7 +178,7 @@ impl HubEnd {
             Ok(frame) => frame,
             Err(fault) => return Reply::Refused(Refusal::from(fault)),
         };
-        let Ok(again) = Parcel::of_frame(self.alloc, &frame) else {
+        let Ok(again) = copy_of_frame(self.alloc, &frame) else {
             return Reply::Refused(Refusal::Memory);
         };
         self.put(from, to, again);

@@ -2,7 +2,7 @@
 //!
 //! The workers are their user: each thread owns one end. Ends share nothing but rings, of one producer and one consumer
 //! each: one for each party's uplink to the hub, and one for each ordered pair of parties, which is the wire of their link.
-//! What crosses a ring is a copy in memory of its own (a parcel). The contract: each call is the step of its name, over the
+//! What crosses a ring is in memory of its own (a parcel). The contract: each call is the step of its name, over the
 //! lists that the end itself keeps. No call waits, and none takes a lock. This crate knows no thread and no JSON.
 //!
 //! It can be used alone, with the crates that its line of crates.txt names.
@@ -28,8 +28,8 @@
 #![tactic(auto)]
 
 mod answering;
+mod copies;
 mod hub_end;
-mod inlets;
 mod laws;
 mod opening;
 mod outcome;
@@ -38,10 +38,10 @@ mod repo_end;
 mod wires;
 
 pub use hub_end::HubEnd;
-pub use inlets::Inlets;
 pub use laws::{ends_stay_ends, hub_end_stays, repo_end_stays, repo_ends_stay};
 pub use opening::open;
 pub use outcome::{Outcome, gather};
 pub use parcel::Parcel;
+pub use parcel::inlets::Inlets;
 pub use repo_end::{RepoEnd, Unsubmitted};
 pub use wires::Wires;

@@ -7,8 +7,8 @@ ghost use Rattle.mv_ends.specs.Whole.{AreEnds, state_of};
 ghost use Rattle.mv_ends.specs.inside.Whole.{AreOpened};
 
 use crate::hub_end::HubEnd;
-use crate::inlets::Inlets;
 use crate::parcel::Parcel;
+use crate::parcel::inlets::Inlets;
 use crate::repo_end::RepoEnd;
 use crate::wires::Wires;
 use mv_hub::Parties;

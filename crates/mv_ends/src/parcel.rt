@@ -1,17 +1,19 @@
 //! What crosses a ring: a message, or a frame, in memory of its own.
 //!
 //! Whoever puts something on a ring keeps what it has, and what it has may be shared with other lists of its own. So what goes on a
-//! ring is a parcel, of which nobody else holds anything: it is made of a message that is given by value, or of a copy; it is
-//! never shared by whoever has it, and is opened by value. Only the end that takes from a ring looks into what is at its
-//! front, and an end that keeps what it is given shares it until the submission is made, or hands it back as the only one that has it.
-//! A message that is given to an end by value is a parcel too, so that no two ends are given the same.
+//! ring is a parcel, of which nobody else holds anything. Parcels are made here alone, of values: a message that is given by value
+//! holds nothing that is shared. Of a parcel its message is lent, and nothing that could share it, but to the end that takes it from its
+//! ring. It is opened by value, and then it is no parcel any more. A message that is given to an end by value is a parcel too,
+//! so that no two ends are given the same.
 
 ghost use Rattle.std.specs.Prelude.{◌≡◌, IfOk};
 
-use mv_link::{Frame, Item};
+use mv_link::{Frame, Item, Reached};
 use mv_message::{Message, Shared};
 use std::alloc::{AllocError, Global};
 use std::marker::Model;
+
+pub(crate) mod inlets;
 
 /// Something in memory of its own, of which nobody else holds anything. Contracts see what is in it.
 #[derive(Drop)]
@@ -27,14 +29,7 @@ impl<T> Model for Parcel<T> {
 }
 
 impl<T> Parcel<T> {
-    /// What is in it, for the end that it is given to.
-    pub(crate) fn inside(&self) -> &T
-        ensures { result.now ≡ self.now }
-    {
-        &self.inside
-    }
-
-    /// What is in it. It is no parcel any more.
+    /// What is in it, which can be shared from now on. It is no parcel any more.
     pub(crate) fn open(self) -> T
         ensures { result ≡ self }
     {
@@ -55,16 +50,6 @@ impl Parcel<Shared<Message>> {
         Ok(Parcel { inside })
     }
 
-    /// A copy of a message. Refused for want of memory.
-    pub(crate) fn of_copy(
-        alloc: Global,
-        message: &Message,
-    ) -> Result<Parcel<Shared<Message>>, AllocError>
-        ensures { IfOk result (λ parcel. parcel ≡ message.now) }
-    {
-        Parcel::of_message(alloc, message.copy(alloc)?)
-    }
-
     /// The message.
     pub fn message(&self) -> &Message
         ensures { result.now ≡ self.now }
@@ -74,22 +59,29 @@ impl Parcel<Shared<Message>> {
 }
 
 impl Parcel<Frame> {
-    /// A copy of a frame: what a receipt holds can't be shared, and a message that is carried is copied. Refused for want of memory.
-    pub(crate) fn of_frame(alloc: Global, frame: &Frame) -> Result<Parcel<Frame>, AllocError>
-        ensures { IfOk result (λ parcel. parcel ≡ frame.now) }
+    /// The frame of this number that holds a receipt. It takes no memory: what a receipt holds can't be shared.
+    pub(crate) fn of_receipt(number: u32, k: u32, reach: Reached, query: bool) -> Parcel<Frame>
+        ensures number { result.number ≡ number }
+        ensures item { result.item ≡ Item.Receipt k reach query }
     {
-        let number = frame.number;
-        let item = match &frame.item {
-            Item::Receipt { k, reach, query } => {
-                let (k, reach, query) = (*k, reach.copy(), *query);
-                Item::Receipt { k, reach, query }
-            }
-            Item::Carried { k, stamp, message } => {
-                let message = Parcel::of_copy(alloc, message.get())?.open();
-                let (k, stamp) = (*k, *stamp);
-                Item::Carried { k, stamp, message }
-            }
-        };
+        let item = Item::Receipt { k, reach, query };
+        let inside = Frame { number, item };
+        Parcel { inside }
+    }
+
+    /// The frame of this number that carries a message, given by value. Refused for want of memory.
+    pub(crate) fn of_carried(
+        alloc: Global,
+        number: u32,
+        k: u32,
+        stamp: u32,
+        message: Message,
+    ) -> Result<Parcel<Frame>, AllocError>
+        ensures number { IfOk result (λ parcel. parcel.number ≡ number) }
+        ensures item { IfOk result (λ parcel. parcel.item ≡ Item.Carried k stamp message) }
+    {
+        let message = Shared::new(alloc, message)?;
+        let item = Item::Carried { k, stamp, message };
         let inside = Frame { number, item };
         Ok(Parcel { inside })
     }

@@ -7,8 +7,9 @@ ghost use Rattle.mv_ends.specs.inside.Valid.{AreAccepted};
 ghost use Rattle.mv_repository.specs.Verdict.{joint_verdict};
 
 use crate::answering::{answer_parcel, is_full, put_answer};
-use crate::inlets::Inlets;
+use crate::copies::copy_of_message;
 use crate::parcel::Parcel;
+use crate::parcel::inlets::Inlets;
 use mv_link::Frame;
 use mv_machine::{Limits, Refusal, Reply};
 use mv_message::{Message, Party, Shared};
@@ -133,16 +134,16 @@ impl RepoEnd {
         if let Err(fault) = self.site.check(message, full) {
             return Reply::Refused(Refusal::from(fault));
         }
-        let Ok(kept) = Parcel::of_copy(self.alloc, message) else {
+        let Ok(own) = copy_of_message(self.alloc, message) else {
             return Reply::Refused(Refusal::Memory);
         };
-        match self.submit_own(kept) {
+        match self.submit_own(own) {
             Ok(k) => Reply::Submitted { k },
             Err(back) => Reply::Refused(back.refusal),
         }
     }
 
-    /// Submits a message that is given by value, as [`RepoEnd::submit`] does: the message itself is kept, and a copy goes on the
+    /// Submits a message that is given by value, as [`RepoEnd::submit`] does: a copy of it is kept, and the message itself goes on the
     /// uplink. Answers its number among all that the party submitted, or hands it back with the refusal, and nothing has changed.
     pub fn submit_own(&mut self, message: Parcel<Shared<Message>>) -> Result<u32, Unsubmitted>
         ensures same { SameRepoEnd self.old self.new }
@@ -155,13 +156,13 @@ impl RepoEnd {
             let refusal = Refusal::from(fault);
             return Err(Unsubmitted { message, refusal });
         }
-        let Ok(submitted) = Parcel::of_copy(self.alloc, message.message()) else {
+        let Ok(kept) = copy_of_message(self.alloc, message.message()) else {
             let refusal = Refusal::Memory;
             return Err(Unsubmitted { message, refusal });
         };
-        match self.site.submit(message.inside(), full) {
+        match self.site.submit(&kept.open(), full) {
             Ok(k) => {
-                self.uplink.push_reserved(submitted);
+                self.uplink.push_reserved(message);
                 Ok(k)
             }
             Err(fault) => {

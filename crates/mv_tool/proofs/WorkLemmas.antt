@@ -1,5 +1,5 @@
 -- Lemmas on what `work` writes.
-use Rattle.std.proofs.Common.{◌≡◌, ℕ, List, ◌++◌, refl, ap, sym, ◌∙◌, subst, true≢false, ◌⊎◌, inl, inr, string_bytes, ◌↔◌, IsTrue, IfOk, IfErr, IfSome, Option, Some, None, Result, Ok, Err, Bool, true, false}
+use Rattle.std.proofs.Common.{◌≡◌, ℕ, List, ◌++◌, refl, ap, sym, ◌∙◌, subst, true≢false, ◌⊎◌, inl, inr, string_bytes, ◌↔◌, IsTrue, IfOk, IfErr, IfSome, IsOk, Option, Some, None, Result, Ok, Err, Bool, true, false}
 use Rattle.mv_machine.specs.State.{State}
 use Rattle.mv_workers.specs.declared.plan.Plan.{Plan}
 use Rattle.mv_workers.specs.declared.plan.WorkFault.{WorkFault}
@@ -43,13 +43,13 @@ run_reported output turns plan (Err faults.Plan) kept fails is = absurd (cc)
 
 -- why nothing is written of the run of a plan
 pub run_fails : (fault : ServeFault) (planned : Planned) (plan : Parts) (ran : Result State WorkFault) → planned ≡ Ok (Some plan)
-    → (fault ≡ Memory) ⊎ (output_of ran ≡ Err fault) → (fault ≡ Memory) ⊎ ((fault ≡ Start) × ((parts : Parts) × (planned ≡ Ok (Some parts))))
-run_fails fault planned plan ran plans (inl memory) = inl memory
-run_fails fault planned plan (Ok outcome) plans (inr is) = absurd (cc)
-run_fails fault planned plan (Err (faults.Unfinished outcome)) plans (inr is) = absurd (cc)
-run_fails fault planned plan (Err (faults.Memory outcome)) plans (inr is) = inl (cc)
-run_fails fault planned plan (Err faults.Start) plans (inr is) = inr (cc, (plan, plans))
-run_fails fault planned plan (Err faults.Plan) plans (inr is) = inr (cc, (plan, plans))
+    → (output_of ran ≡ Err fault) ⊎ ((fault ≡ Memory) × IsOk (output_of ran)) → (fault ≡ Memory) ⊎ ((fault ≡ Start) × ((parts : Parts) × (planned ≡ Ok (Some parts))))
+run_fails fault planned plan ran plans (inr (memory, written)) = inl memory
+run_fails fault planned plan (Ok outcome) plans (inl is) = absurd (cc)
+run_fails fault planned plan (Err (faults.Unfinished outcome)) plans (inl is) = absurd (cc)
+run_fails fault planned plan (Err (faults.Memory outcome)) plans (inl is) = inl (cc)
+run_fails fault planned plan (Err faults.Start) plans (inl is) = inr (cc, (plan, plans))
+run_fails fault planned plan (Err faults.Plan) plans (inl is) = inr (cc, (plan, plans))
 
 -- the output of an input that was read went out
 pub worked_whole : (turns : ℕ) (input : Option (List ℕ)) (planned : Planned) (old new : Option (List ℕ)) (text out : List ℕ) (finished : Bool)

@@ -1,6 +1,6 @@
 //! Carries out a plan, and reports.
 
-ghost use Rattle.std.specs.Prelude.{◌≡◌, ◌++◌, ◌∷◌, [], ◌⊎◌, false, IfOk, IfErr, IfSome, string_bytes};
+ghost use Rattle.std.specs.Prelude.{◌≡◌, ◌++◌, ◌∷◌, [], ◌⊎◌, false, IfOk, IfErr, IfSome, IsOk, string_bytes};
 ghost use Rattle.std.specs.Io.KnownBytes.{Appends};
 ghost use Rattle.mv_workers.specs.Plans.{IsSound};
 ghost use Rattle.mv_plan.specs.Planning.{planned_of};
@@ -110,7 +110,8 @@ fn refusal(text: String) -> Result<Output, ServeFault>
 fn output_of(alloc: Global, run: Result<Outcome, WorkFault>) -> Result<Output, ServeFault>
     ensures ok { IfOk result (λ output.
         output_of run ≡ Ok (string_bytes output.text, output.finished)) }
-    ensures err { IfErr result (λ fault. (fault ≡ ServeFault.Memory) ⊎ (output_of run ≡ Err fault)) }
+    ensures err { IfErr result (λ fault. (output_of run ≡ Err fault)
+        ⊎ ((fault ≡ ServeFault.Memory) × IsOk (output_of run))) }
 {
     match run {
         Ok(outcome) => reported(alloc, outcome, true),

@@ -12,8 +12,7 @@ use mv_message::{Message, Shared};
 use std::alloc::AllocError;
 use std::collections::VecDeque;
 
-/// A repository's end, with what its party has still to submit there. Each message is in memory of its own: the end takes it by value,
-/// and makes no copy to keep.
+/// A repository's end, with what its party has still to submit there. Each message is in memory of its own: the end takes it by value.
 #[derive(Drop)]
 pub(crate) struct Desk {
     /// The end.

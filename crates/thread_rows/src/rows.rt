@@ -4,7 +4,7 @@ ghost use Rattle.mv_ends.specs.Laws.{AreSameRepos};
 
 use crate::ends::Ends;
 use crate::hands::{Apart, Hand, Here};
-use mv_ends::{HubEnd, Outcome, RepoEnd, ends_stay_ends, gather, open};
+use mv_ends::{HubEnd, Outcome, RepoEnd, ends_stay_ends, gather, open, repo_ends_stay};
 use mv_hub::{Entry, Parties};
 use mv_machine::{Limits, Refusal, Reply, Step};
 use mv_message::{Message, Party, Shared};
@@ -259,10 +259,10 @@ fn refuses_what_the_ends_lists_say(rt: HostRuntime) {
 }
 
 /// Submits a message at the first of the ends of repositories.
-#[tactic(auto, using(mv_ends::proofs::CallerLemmas::same_but_one))]
 fn submit_first(repos: &mut Vec<RepoEnd>, message: &Message)
     ensures { AreSameRepos repos.old.items repos.new.items }
 {
+    repo_ends_stay();
     if repos.is_empty() {
         return;
     }

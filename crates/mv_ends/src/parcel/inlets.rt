@@ -1,6 +1,7 @@
 //! The ends of rings that are taken from, one for each party.
 //!
-//! The hub takes messages from the uplinks, and each repository frames from the links to it.
+//! The hub takes messages from the uplinks, and each repository frames from the links to it. They alone are lent what is in a parcel, that at
+//! the front of their own ring, since a call that is refused leaves it there.
 
 ghost use Rattle.std.specs.Prelude.{◌≡◌, ◌<◌, [], length, slice_index_or, IsTrue, IsFalse};
 ghost use Rattle.mv_ends.specs.Words.{IsPrefix, sent};
@@ -51,7 +52,7 @@ impl<T: Drop> Inlets<T> {
         requires some { HasFront self.now from }
         ensures { IsFront self.now from result.now }
     {
-        self.ends[from as usize].peek_known().inside()
+        &self.ends[from as usize].peek_known().inside
     }
 
     /// Takes the parcel at the front of the ring from a party, and opens it.

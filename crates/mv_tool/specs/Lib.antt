@@ -9,13 +9,17 @@ pub use Rattle.mv_engine.specs.Replies
 pub use Rattle.mv_lines.specs.Sessions
 pub use Rattle.mv_lines.specs.Canon
 pub use Rattle.mv_engine.specs.Served
+pub use Rattle.mv_engine.specs.Output
 pub use Rattle.mv_explain.specs.Explained
 pub use Rattle.mv_checks.specs.Checks
 pub use Rattle.mv_checks.specs.Strict
 pub use Rattle.mv_trail.specs.Trail
 pub use Rattle.mv_show.specs.Showing
 pub use Rattle.mv_show.specs.Shown
+pub use Rattle.mv_plan.specs.Drafts
 pub use Rattle.mv_plan.specs.Planning
 pub use Rattle.mv_plan.specs.Reading
+pub use Rattle.mv_workers.specs.Work
+pub use Rattle.mv_workers.specs.Plans
 pub use Rattle.mv_report.specs.Report
 pub mod inside

@@ -12,6 +12,8 @@ ghost use Rattle.std.specs.Prelude.{◌≡◌, ◌≤◌, IfOk};
 use std::alloc::{AllocError, Global};
 use std::sync::atomic::{AtomicU64, Ordering};
 use std::sync::{Condvar, Mutex, Wait};
+use std::thread::Parker;
+use std::time::Duration;
 
 /// What stands for a worker that takes no turn any more.
 const GONE: u64 = u64::MAX;
@@ -23,8 +25,10 @@ struct Notes {
     moves: AtomicU64,
     /// 0, or one more than the moves of all workers that it saw when its last rest began, or [`GONE`].
     rest: AtomicU64,
+    /// What it sleeps on.
+    parker: Parker,
     /// So wide that the notes of two workers never are in one line of a processor's cache.
-    apart: [u64; 6],
+    apart: [u64; 5],
 }
 
 /// What the workers of a run share: nothing of what they carry.
@@ -53,7 +57,8 @@ impl Course {
             notes.push(Notes {
                 moves: AtomicU64::new(0),
                 rest: AtomicU64::new(0),
-                apart: [0; 6],
+                parker: Parker::new(),
+                apart: [0; 5],
             })?;
         }
         Ok(Course {
@@ -97,6 +102,20 @@ impl Course {
     pub(crate) fn moved(&self, worker: u32) {
         if let Some(notes) = self.notes.get(worker as usize) {
             notes.moves.fetch_add(1, Ordering::SeqCst);
+        }
+    }
+
+    /// Has a worker sleep for so long, or until all are woken.
+    pub(crate) fn sleep(&self, rt: &impl Wait, worker: u32, time: Duration) {
+        if let Some(notes) = self.notes.get(worker as usize) {
+            notes.parker.park_timeout(rt, time);
+        }
+    }
+
+    /// Wakes all workers that sleep.
+    pub(crate) fn wake_all(&self) {
+        for notes in self.notes.iter() {
+            notes.parker.unpark();
         }
     }
 

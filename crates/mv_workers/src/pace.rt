@@ -4,7 +4,6 @@ use crate::course::Course;
 use std::alloc::AllocError;
 use std::sync::Wait;
 use std::thread;
-use std::thread::Parker;
 use std::time::Duration;
 
 /// Up to so many rests in a row the worker leaves its processor to others. Behind that it sleeps: a worker that looks at its rings again and
@@ -17,6 +16,10 @@ const FIRST_SLEEP: u64 = 50;
 /// How often a sleep is twice as long as the one before it: the longest is 12.8 milliseconds.
 const DOUBLINGS: u32 = 8;
 
+/// Behind so many rests in a row the worker wakes all others where none moved over the last of these, a sleep of 0.2 milliseconds: the run may be
+/// over, and who sleeps long would be late to see it.
+const QUIET: u32 = YIELDS + 3;
+
 /// How a worker goes from turn to turn.
 #[derive(Drop)]
 pub(crate) struct Pace {
@@ -27,8 +30,6 @@ pub(crate) struct Pace {
     moves: Option<u64>,
     /// How many rests in a row there were.
     rests: u32,
-    /// What it sleeps on.
-    parker: Parker,
     /// Whether memory was refused to it.
     short: bool,
 }
@@ -40,7 +41,6 @@ impl Pace {
             worker,
             moves: None,
             rests: 0,
-            parker: Parker::new(),
             short: false,
         }
     }
@@ -56,10 +56,15 @@ impl Pace {
         if let Ok(false) = moved {
             let worker = self.worker;
             if self.moves.is_some_and(|moves| course.rested(worker, moves)) {
+                course.wake_all();
                 return false;
             }
-            self.rest(rt);
-            self.moves = Some(course.moves());
+            self.rest(rt, course);
+            let moves = course.moves();
+            if self.rests == QUIET && self.moves == Some(moves) {
+                course.wake_all();
+            }
+            self.moves = Some(moves);
             return true;
         }
         course.moved(self.worker);
@@ -70,13 +75,13 @@ impl Pace {
     }
 
     /// Waits behind a turn in which nothing was done.
-    fn rest(&mut self, rt: &impl Wait) {
+    fn rest(&mut self, rt: &impl Wait, course: &Course) {
         if self.rests < YIELDS {
             thread::yield_now();
         } else {
             let doublings = (self.rests - YIELDS).min(DOUBLINGS);
             let micros = FIRST_SLEEP << doublings;
-            self.parker.park_timeout(rt, Duration::from_micros(micros));
+            course.sleep(rt, self.worker, Duration::from_micros(micros));
         }
         self.rests = self.rests.saturating_add(1);
     }

@@ -1,10 +1,12 @@
 //! What crosses a ring: a message, or a frame, in memory of its own.
 //!
-//! Whoever puts something on a ring keeps what it has, and what it has may be shared with other lists of its own. So what goes on a
-//! ring is a parcel, of which nobody else holds anything. Parcels are made here alone, of values: a message that is given by value
-//! holds nothing that is shared. Of a parcel its message is lent, and nothing that could share it, but to the end that takes it from its
-//! ring. It is opened by value, and then it is no parcel any more. A message that is given to an end by value is a parcel too,
-//! so that no two ends are given the same.
+//! Whoever puts something on a ring keeps what it has, and may share that among its own lists. So
+//! what goes on a ring is a parcel, of which nobody else holds anything. Parcels are made here
+//! alone, of values: a message that is given by value holds nothing that is shared. A parcel of a
+//! message lends the message, which cannot be shared. What can be shared is lent to the end that
+//! takes from the ring alone (`inlets`). A parcel is opened by value, and then it is none any more.
+//! A message that is given to an end by value is a parcel too, so that no two ends are given the
+//! same.
 
 ghost use Rattle.std.specs.Prelude.{◌≡◌, IfOk};
 
@@ -59,7 +61,8 @@ impl Parcel<Shared<Message>> {
 }
 
 impl Parcel<Frame> {
-    /// The frame of this number that holds a receipt. It takes no memory: what a receipt holds can't be shared.
+    /// The frame of this number that holds a receipt, which has nothing that can be shared. It takes
+    /// no memory.
     pub(crate) fn of_receipt(number: u32, k: u32, reach: Reached, query: bool) -> Parcel<Frame>
         ensures number { result.number ≡ number }
         ensures item { result.item ≡ Item.Receipt k reach query }

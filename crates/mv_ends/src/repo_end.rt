@@ -21,7 +21,7 @@ use std::alloc::{AllocError, Global};
 
 /// A repository's end of all its rings, with its party.
 pub struct RepoEnd {
-    /// Where what goes on the uplink gets its memory.
+    /// Where copies, queries and answers get their memory.
     alloc: Global,
     /// The party: its submissions and its repository.
     site: Site,
@@ -143,8 +143,9 @@ impl RepoEnd {
         }
     }
 
-    /// Submits a message that is given by value, as [`RepoEnd::submit`] does: a copy of it is kept, and the message itself goes on the
-    /// uplink. Answers its number among all that the party submitted, or hands it back with the refusal, and nothing has changed.
+    /// Submits a message that is given by value, as [`RepoEnd::submit`] does: a copy of it is kept,
+    /// and the message itself goes on the uplink. Answers its number among all that the party
+    /// submitted, or hands it back with the refusal, and nothing has changed.
     pub fn submit_own(&mut self, message: Parcel<Shared<Message>>) -> Result<u32, Unsubmitted>
         ensures same { SameRepoEnd self.old self.new }
         ensures ok { IfOk result (λ k. Submits message self.old self.new (Reply.Submitted k)) }

@@ -1,4 +1,4 @@
-//! What the workers of a run share: when all may take their first turn, and when nothing more can come.
+//! What the workers of a run share: when all may take their first turn, when nothing more can come, and what they sleep on.
 //!
 //! A worker rests where each call of its turn was refused, and what a call answers follows from its end and from what is on its
 //! rings. So once every worker has rested, each in a turn that began behind the last move of any, every call would be refused for
@@ -28,7 +28,7 @@ struct Notes {
     /// What it sleeps on.
     parker: Parker,
     /// So wide that the notes of two workers never are in one line of a processor's cache.
-    apart: [u64; 5],
+    apart: [u64; 8],
 }
 
 /// What the workers of a run share: nothing of what they carry.
@@ -58,7 +58,7 @@ impl Course {
                 moves: AtomicU64::new(0),
                 rest: AtomicU64::new(0),
                 parker: Parker::new(),
-                apart: [0; 5],
+                apart: [0; 8],
             })?;
         }
         Ok(Course {
@@ -105,14 +105,15 @@ impl Course {
         }
     }
 
-    /// Has a worker sleep for so long, or until all are woken.
+    /// Has a worker sleep for so long, or until all are woken; not at all where they were since its
+    /// last sleep.
     pub(crate) fn sleep(&self, rt: &impl Wait, worker: u32, time: Duration) {
         if let Some(notes) = self.notes.get(worker as usize) {
             notes.parker.park_timeout(rt, time);
         }
     }
 
-    /// Wakes all workers that sleep.
+    /// Wakes all workers that sleep. Each other one, the caller too, passes over its next sleep.
     pub(crate) fn wake_all(&self) {
         for notes in self.notes.iter() {
             notes.parker.unpark();

@@ -12,7 +12,8 @@ use mv_message::{Message, Shared};
 use std::alloc::AllocError;
 use std::collections::VecDeque;
 
-/// A repository's end, with what its party has still to submit there. Each message is in memory of its own: the end takes it by value.
+/// A repository's end, with what its party has still to submit there. Each message is in memory of
+/// its own: the end takes it by value.
 #[derive(Drop)]
 pub(crate) struct Desk {
     /// The end.

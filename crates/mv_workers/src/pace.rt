@@ -1,4 +1,4 @@
-//! How a worker goes from turn to turn: one that can do nothing waits, the longer the longer it can't.
+//! How a worker goes from turn to turn: one that can do nothing waits, the longer the longer it can't, at most until all are woken.
 
 use crate::course::Course;
 use std::alloc::AllocError;
@@ -16,7 +16,8 @@ const FIRST_SLEEP: u64 = 50;
 /// How often a sleep is twice as long as the one before it: the longest is 12.8 milliseconds.
 const DOUBLINGS: u32 = 8;
 
-/// Behind so many rests in a row the worker wakes all others where none moved over the last of these, a sleep of 0.2 milliseconds: the run may be
+/// Behind so many rests in a row, the last three of which are sleeps, the worker wakes all, once,
+/// where none moved over the last of these, 0.2 milliseconds if nothing woke it: the run may be
 /// over, and who sleeps long would be late to see it.
 const QUIET: u32 = YIELDS + 3;
 

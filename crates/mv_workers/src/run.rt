@@ -28,7 +28,7 @@ fn is_sound(plan: &Plan) -> bool
 /// In a turn the hub's worker routes once from each party and then relays once on each link on which something may wait; a
 /// repository's worker tries the next message of its party's list once, a query by asking it, and then passes the gate and looks for
 /// a frame once for each party. All take their first turn once all have started. A worker ends when memory is refused to it, and when nothing more can come in the
-/// whole run; one that can do nothing waits the longer the longer it can't.
+/// whole run; one that can do nothing waits the longer the longer it can't, at most until all are woken.
 ///
 /// No contract says that a run finishes, nor that workers run at once.
 pub fn run_workers<R: Threads + Wait + Sync, G: Gate>(

@@ -1,7 +1,8 @@
 //! The ends of rings that are taken from, one for each party.
 //!
-//! The hub takes messages from the uplinks, and each repository frames from the links to it. They alone are lent what is in a parcel, that at
-//! the front of their own ring, since a call that is refused leaves it there.
+//! The hub takes messages from the uplinks, and each repository frames from the links to it. Only
+//! these are lent what is in a parcel, that at the front of their own ring: a call that is refused
+//! leaves it there.
 
 ghost use Rattle.std.specs.Prelude.{◌≡◌, ◌<◌, [], length, slice_index_or, IsTrue, IsFalse};
 ghost use Rattle.mv_ends.specs.Words.{IsPrefix, sent};

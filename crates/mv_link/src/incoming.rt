@@ -63,11 +63,20 @@ impl Incoming {
         ensures next { result ≡ Look.Next → frame.now.number ≡ self.now + 1 }
         ensures counted { result ≡ Look.Next → self.now < NUMBER_LIMIT }
     {
-        if frame.number <= self.count {
+        self.look_at(frame.number)
+    }
+
+    /// How a frame of this number stands to what was accepted. Nothing changes.
+    pub fn look_at(&self, number: u32) -> Look
+        ensures value { result ≡ look_at self.now number }
+        // Where it is the next there is one more number for it.
+        ensures counted { result ≡ Look.Next → self.now < NUMBER_LIMIT }
+    {
+        if number <= self.count {
             return Look::Old;
         }
         let expected = self.count + 1;
-        if frame.number == expected {
+        if number == expected {
             Look::Next
         } else {
             Look::Gap { expected }

@@ -1,6 +1,6 @@
 //! The end of a link that items are pushed at. It keeps the last of them in a ring of the window's size.
 
-ghost use Rattle.std.specs.Prelude.{◌≡◌, ◌+◌, ◌-◌, ◌<◌, ◌≤◌, ◌↔◌, List, [], ◌∷◌, ◌++◌, IsTrue, IsOk, OnOk, OnErr, IfOk, IfErr};
+ghost use Rattle.std.specs.Prelude.{◌≡◌, ◌+◌, ◌-◌, ◌<◌, ◌≤◌, ◌↔◌, List, [], ◌∷◌, ◌++◌, IsTrue, None, IsOk, OnOk, OnErr, OnSome, IfOk, IfSome};
 
 use crate::{Frame, Item, LinkFault, NUMBER_LIMIT};
 use circular_buffer::HeapCircularBuffer;
@@ -98,33 +98,35 @@ impl Outgoing {
         Ok(())
     }
 
-    /// The frame of this number, which is held.
-    fn frame(&self, number: u32) -> Result<Frame, LinkFault>
+    /// The item of this number, which is held.
+    fn item(&self, number: u32) -> &Item
         requires { ((self.now.total - self.now.window) < number) × (number ≤ self.now.total) }
-        ensures number { IfOk result (λ frame. frame.number ≡ number) }
-        ensures frame { IfOk result (λ frame. IsFrameOfAll self.now frame) }
-        ensures memory { IfErr result (λ fault. fault ≡ LinkFault.Memory) }
+        ensures { IsFrameOfAll self.now (record { number = number; item = result.now }) }
     {
         let behind = (self.total - number) as usize;
         let place = self.held.len() - 1 - behind;
-        let held = self.held.get(place).unwrap();
-        let item = held.copy()?;
-        Ok(Frame { number, item })
+        self.held.get(place).unwrap()
     }
 
-    /// The next frame that was not relayed yet. It stays the next.
-    ///
-    /// The first of these that holds is the fault: L1, every item has been relayed; L4, memory was refused.
-    pub fn next(&self) -> Result<Frame, LinkFault>
-        ensures number { IfOk result (λ frame. frame.number ≡ self.now.sent + 1) }
-        ensures frame { IfOk result (λ frame. IsFrameOfAll self.now frame) }
-        ensures waiting { OnOk result (self.now.sent < self.now.total) }
-        ensures fault { FailsBy LinkFault.Memory (relay_fault self.now.total self.now.sent) result }
+    /// The next item that was not relayed yet, `None` where all have been. It stays the next.
+    pub fn next(&self) -> Option<&Item>
+        ensures item { IfSome result (λ item.
+            IsFrameOfAll self.now (record { number = self.now.sent + 1; item = item.now })) }
+        ensures waiting { OnSome result (self.now.sent < self.now.total) }
+        ensures none { result ≡ None → self.now.sent ≡ self.now.total }
     {
         if self.sent == self.total {
-            return Err(LinkFault::Nothing);
+            return None;
         }
-        self.frame(self.sent + 1)
+        Some(self.item(self.sent + 1))
+    }
+
+    /// Counts the next item as relayed.
+    pub fn advance(&mut self)
+        requires { self.old.sent < self.old.total }
+        ensures { self.new ≡ with_relayed self.old }
+    {
+        self.sent += 1;
     }
 
     /// The next frame that was not relayed yet.
@@ -138,9 +140,13 @@ impl Outgoing {
         ensures err { OnErr result (self.new ≡ self.old) }
         ensures fault { FailsBy LinkFault.Memory (relay_fault self.old.total self.old.sent) result }
     {
-        let frame = self.next()?;
-        self.sent += 1;
-        Ok(frame)
+        let Some(item) = self.next() else {
+            return Err(LinkFault::Nothing);
+        };
+        let item = item.copy()?;
+        let number = self.sent + 1;
+        self.advance();
+        Ok(Frame { number, item })
     }
 
     /// The frame of this number once more, one that was relayed before. Nothing changes.
@@ -160,6 +166,7 @@ impl Outgoing {
         if number <= self.total.saturating_sub(window) {
             return Err(LinkFault::Gone);
         }
-        self.frame(number)
+        let item = self.item(number).copy()?;
+        Ok(Frame { number, item })
     }
 }

@@ -1,5 +1,5 @@
 -- What a party keeps with one more submission, and with one more item of its repository.
-use Rattle.mv_party.proofs.Words.{◌≡◌, ℕ, ◌+◌, ◌<◌, ◌≤◌, Bool, false, List, [], ◌∷◌, ◌++◌, length, cond, set, get_or, length-set, eqb, Option, Some, None, Ok, refl, arith, length-append, option_to_list, IsLawfulParty, IsSite, Item, LogEntry, Message, SiteState, answer_fault, answer_to, answers_in, ask_fault, count_from, entry_from, is_query_or_answer, site_of, submit_fault, unless_fault}
+use Rattle.mv_party.proofs.Words.{◌≡◌, ℕ, ◌+◌, ◌<◌, ◌≤◌, Bool, false, List, [], ◌∷◌, ◌++◌, length, cond, set, get_or, length-set, eqb, Option, Some, None, refl, arith, length-append, option_to_list, IsLawfulParty, IsSite, Item, LogEntry, Message, SiteState, answer_fault, answer_to, answers_in, ask_fault, count_from, entry_from, is_query_or_answer, site_of, submit_fault}
 use Rattle.std.specs.List.{AllByRecursion, count_by}
 use Rattle.std.proofs.lemmas.Bool.{cases_eq}
 use Rattle.std.proofs.lemmas.Bool.Decides.{nat_tests}
@@ -51,15 +51,15 @@ accepted-push : (log : List LogEntry) (accepted : List ℕ) (sender : ℕ) (item
 accepted-push log accepted sender item party lt own other = grind (arith, elements, cases_eq party sender, items_from-push log (entry_from sender item) party, length-append {A = Item})
 
 -- one more item, and the answer that it calls for
-pub applied_kept : (limit : ℕ) (submissions messages : List Message) (old new : RepositoryState) (accepted : List ℕ) (sender : ℕ) (item : Item) (count : ℕ) (full : Bool) (done : Unit {0})
+pub applied_kept : (limit : ℕ) (submissions messages : List Message) (old new : RepositoryState) (accepted : List ℕ) (sender : ℕ) (item : Item) (count : ℕ)
     → IsSite (site_of limit submissions old (length accepted)) accepted → sender < length accepted
-    → Ok done ≡ unless_fault (answer_fault full (site_of limit submissions old (length accepted)) (answer_to old.log (entry_from sender item)))
+    → answer_fault false (site_of limit submissions old (length accepted)) (answer_to old.log (entry_from sender item)) ≡ None
     → messages ≡ submissions ++ option_to_list (answer_to old.log (entry_from sender item)) → new ≡ repository_with old sender item → count ≡ get_or accepted sender 0 + 1
     → IsSite (site_of limit messages new (length (set accepted sender count))) (set accepted sender count)
-applied_kept limit submissions messages old new accepted sender item count full done k lt told more applied counted =
+applied_kept limit submissions messages old new accepted sender item count k lt free more applied counted =
     rw (length-set accepted sender count, counted, applied, more) (record {
       lawful = party-applied (length accepted) submissions old.log (entry_from sender item) k.lawful lt;
-      few = answer-room full (site_of limit submissions old (length accepted)) (answer_to old.log (entry_from sender item)) k.few (grind (arith, told));
+      few = answer-room false (site_of limit submissions old (length accepted)) (answer_to old.log (entry_from sender item)) k.few free;
       limit = k.limit;
       counts = λ party is_party. accepted-push old.log accepted sender item party lt (k.counts sender lt) (k.counts party is_party);
     })

@@ -1,7 +1,7 @@
 //! One party of a system.
 
-ghost use Rattle.std.specs.Prelude.{◌≡◌, ◌<◌, ◌≤◌, ◌+◌, ◌∷◌, [], ◌++◌, List, ℕ, length, slice_get, vec_capacity, option_to_list, IfOk, OnOk, OnErr, IsErrOf, is_some, false};
-ghost use Rattle.mv_party.specs.Words.{LogEntry as ALogEntry, Query, SUBMISSIONS_LIMIT, answer_after, is_query_or_answer};
+ghost use Rattle.std.specs.Prelude.{◌≡◌, ◌<◌, ◌≤◌, ◌+◌, ◌∷◌, [], ◌++◌, List, ℕ, length, slice_get, vec_capacity, option_to_list, None, Some, IfOk, IfErr, OnOk, OnErr, IsErrOf, is_some, false};
+ghost use Rattle.mv_party.specs.Words.{Item as AnItem, LogEntry as ALogEntry, Query, SUBMISSIONS_LIMIT, answer_after, is_query_or_answer};
 ghost use Rattle.std.specs.Option.{option_copied};
 ghost use Rattle.mv_link.specs.declared.incoming.Look.TheVariants.{Next};
 ghost use Rattle.mv_link.specs.declared.limits.TheConstants.{NUMBER_LIMIT};
@@ -182,20 +182,36 @@ impl Site {
         ensures memory { IsErrOf result SiteFault.Memory
             → look_at (count_from self.old.log sender) frame.now.number ≡ Next }
     {
-        match self.look(sender, frame) {
+        match self.check_frame(sender, frame.number, is_query(&frame.item), uplink_full)? {
             Look::Old => Ok(Taken::Old),
             Look::Gap { expected } => Ok(Taken::Gap { expected }),
-            Look::Next => self.apply_next(sender, &frame.item, uplink_full),
+            Look::Next => self.apply_next(sender, &frame.item),
         }
     }
 
-    /// How a frame from a party stands to what was accepted from it. Nothing changes.
-    pub fn look(&self, sender: Party, frame: &Frame) -> Look
+    /// How the frame of this number from a party stands to what was accepted from it, where the party takes it now, memory aside.
+    /// Only the next is refused: where it asks, which calls for an answer, and the party cannot submit one. Nothing changes.
+    pub fn check_frame(
+        &self,
+        sender: Party,
+        number: u32,
+        asks: bool,
+        uplink_full: bool,
+    ) -> Result<Look, SiteFault>
         requires { sender < self.now.parties }
-        ensures value { result ≡ look_at (count_from self.now.log sender) frame.now.number }
-        ensures counted { result ≡ Next → count_from self.now.log sender < NUMBER_LIMIT }
+        ensures look { IfOk result (λ look. look ≡ look_at (count_from self.now.log sender) number) }
+        ensures counted { IfOk result (λ look. look ≡ Next → count_from self.now.log sender < NUMBER_LIMIT) }
+        ensures ok { OnOk result ((item : AnItem) → is_some (answer_after self.now.log sender item) ≡ asks
+            → apply_fault uplink_full self.now sender item (look_at (count_from self.now.log sender) number) ≡ None) }
+        ensures err { IfErr result (λ fault. (item : AnItem) → is_some (answer_after self.now.log sender item) ≡ asks
+            → apply_fault uplink_full self.now sender item (look_at (count_from self.now.log sender) number) ≡ Some fault) }
+        ensures next { OnErr result (look_at (count_from self.now.log sender) number ≡ Next) }
     {
-        self.accepted[sender as usize].look(frame)
+        let look = self.accepted[sender as usize].look_at(number);
+        if look == Look::Next && asks && (uplink_full || self.is_full()) {
+            return Err(SiteFault::AnswerBusy);
+        }
+        Ok(look)
     }
 
     /// The answer that an item from a party calls for, if it does. Nothing changes.
@@ -205,15 +221,28 @@ impl Site {
         self.repository.answer(sender, item)
     }
 
-    /// Whether it can submit the answer that an item from a party calls for, if it does.
-    pub fn check_answer(&self, item: &Item, uplink_full: bool) -> Result<(), SiteFault>
-        ensures { (sender : ℕ) → result ≡ unless_fault
-            (answer_fault uplink_full self.now (answer_after self.now.log sender item.now)) }
+    /// Applies the item of the next frame from a party, and submits the answer that it calls for, which [`Site::answer`] told:
+    /// both, or neither, for want of memory alone.
+    pub fn accept(
+        &mut self,
+        sender: Party,
+        item: &Item,
+        answer: Option<Shared<Message>>,
+    ) -> Result<Taken, AllocError>
+        requires sender { sender < self.old.parties }
+        requires count { count_from self.old.log sender < NUMBER_LIMIT }
+        requires answer { answer ≡ answer_after self.old.log sender item.now }
+        requires free { answer_fault false self.old (answer_after self.old.log sender item.now) ≡ None }
+        ensures value { IfOk result (λ taken. taken ≡ taken_by self.old sender item.now Next) }
+        ensures ok { OnOk result (self.new ≡ with_applied self.old sender item.now) }
+        ensures err { OnErr result (self.new ≡ self.old) }
     {
-        if is_query(item) && (uplink_full || self.is_full()) {
-            return Err(SiteFault::AnswerBusy);
-        }
-        Ok(())
+        self.submissions.reserve(1)?;
+        let effect = self.repository.enter(sender, item)?;
+        // Nothing fails from here on.
+        self.accepted[sender as usize].advance();
+        let answer = put_answer(&mut self.submissions, answer);
+        Ok(Taken::Applied { effect, answer })
     }
 
     /// Whether it submitted as many messages as it may.
@@ -237,28 +266,20 @@ impl Site {
         Ok(count + 1)
     }
 
-    /// Applies the item of the next frame from a party, and submits the answer that it calls for: both, or neither.
-    fn apply_next(
-        &mut self,
-        sender: Party,
-        item: &Item,
-        uplink_full: bool,
-    ) -> Result<Taken, SiteFault>
+    /// Applies the item of the next frame from a party, and submits the answer that it calls for.
+    fn apply_next(&mut self, sender: Party, item: &Item) -> Result<Taken, SiteFault>
         requires sender { sender < self.old.parties }
         requires count { count_from self.old.log sender < NUMBER_LIMIT }
+        requires free { answer_fault false self.old (answer_after self.old.log sender item.now) ≡ None }
         ensures value { IfOk result (λ taken. taken ≡ taken_by self.old sender item.now Next) }
         ensures ok { OnOk result (self.new ≡ with_applied self.old sender item.now) }
-        ensures err { OnErr result (self.new ≡ self.old) }
-        ensures fault { FailsBy SiteFault.Memory
-            (apply_fault uplink_full self.old sender item.now Next) result }
+        ensures err { IfErr result (λ fault. (self.new ≡ self.old) × (fault ≡ SiteFault.Memory)) }
     {
-        self.check_answer(item, uplink_full)?;
-        self.submissions.reserve(1)?;
-        let (effect, answer) = self.repository.apply(sender, item)?;
-        // Nothing fails from here on.
-        self.accepted[sender as usize].advance();
-        let answer = put_answer(&mut self.submissions, answer);
-        Ok(Taken::Applied { effect, answer })
+        let answer = match self.answer(sender, item) {
+            Some(answer) => Some(Shared::new(self.alloc, answer)?),
+            None => None,
+        };
+        Ok(self.accept(sender, item, answer)?)
     }
 }
 

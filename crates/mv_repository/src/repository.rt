@@ -268,8 +268,7 @@ impl Repository {
     }
 
     /// Applies an item that came from a party: says what that did, at the item's own place in the order of stamps, and
-    /// gives the answer that it calls for, where it is a query. Want of memory leaves all as it was. An upload of more than 2^16 serial
-    /// numbers is refused so too; no line names so many.
+    /// gives the answer that it calls for, where it is a query. Refused as [`Repository::enter`] is.
     pub fn apply(
         &mut self,
         sender: Party,
@@ -280,16 +279,28 @@ impl Repository {
         ensures answer { IfOk result (λ done. done.1 ≡ answer_to self.old.log (record { sender = sender; item = item.now })) }
         ensures err { OnErr result (self.new ≡ self.old) }
     {
+        let answer = match self.answer(sender, item) {
+            Some(answer) => Some(Shared::new(self.alloc, answer)?),
+            None => None,
+        };
+        let effect = self.enter(sender, item)?;
+        Ok((effect, answer))
+    }
+
+    /// Applies an item that came from a party, and says what that did, at the item's own place in the order of stamps. The answer that
+    /// it calls for is what [`Repository::answer`] told before. Want of memory leaves all as it was. An upload of more than 2^16 serial
+    /// numbers is refused so too; no line names so many.
+    pub fn enter(&mut self, sender: Party, item: &Item) -> Result<Effect, AllocError>
+        ensures ok { OnOk result (self.new ≡ with_applied self.old sender item.now) }
+        ensures effect { IfOk result (λ effect. effect ≡ effect_of self.old.log (record { sender = sender; item = item.now })) }
+        ensures err { OnErr result (self.new ≡ self.old) }
+    {
         let place = self.log.len();
         if place > u32::MAX as usize {
             return Err(AllocError);
         }
         self.inquiries.reserve()?;
         self.log.reserve(1)?;
-        let answer = match self.answer(sender, item) {
-            Some(answer) => Some(Shared::new(self.alloc, answer)?),
-            None => None,
-        };
         let Ok(copy) = item.copy() else {
             return Err(AllocError);
         };
@@ -297,7 +308,7 @@ impl Repository {
         match self.tables.add(self.log.as_slice(), place as u32) {
             Ok(effect) => {
                 self.inquiries.note(self.party, sender, item);
-                Ok((effect, answer))
+                Ok(effect)
             }
             Err(refused) => {
                 self.log.truncate(place);

@@ -174,29 +174,32 @@ fn is_swedish(hub: &Hub) -> bool {
         && hub.parties().serving(&markets).as_slice() == [2].as_slice()
 }
 
-/// Whether a frame has this number, and carries the message of that number under this stamp.
-fn carries(frame: &Frame, number: u32, stamp: u32) -> bool {
-    match &frame.item {
+/// Whether an item carries the message of this number under this stamp.
+fn carries(item: &Item, number: u32, stamp: u32) -> bool {
+    match item {
         Item::Carried {
             k,
             stamp: given,
             ..
-        } => frame.number == number && *k == number && *given == stamp,
+        } => *k == number && *given == stamp,
         Item::Receipt { .. } => false,
     }
 }
 
-/// Whether a frame was given, and does.
+/// Whether a frame was given, of this number, and its item does.
 fn is_given(given: Result<Frame, HubFault>, number: u32, stamp: u32) -> bool {
     match given {
-        Ok(frame) => carries(&frame, number, stamp),
+        Ok(frame) => frame.number == number && carries(&frame.item, number, stamp),
         Err(_) => false,
     }
 }
 
-/// Whether the next frame of the link from party 0 to party 1 does, before it is relayed.
+/// Whether the next item of the link from party 0 to party 1 does, before it is relayed.
 fn is_next(hub: &Hub, number: u32, stamp: u32) -> bool {
-    is_given(hub.next_frame(0, 1), number, stamp)
+    match hub.next_item(0, 1) {
+        Ok((next, item)) => next == number && carries(item, number, stamp),
+        Err(_) => false,
+    }
 }
 
 /// Whether the next frame of the link from party 0 to party 1 does.
@@ -271,7 +274,9 @@ fn fault_of(hub: &mut Hub, from: u32, message: &Shared<Message>) -> Option<Route
     if hub.record().len() > 1_000 {
         return None;
     }
-    hub.route(from, message).err()
+    let told = hub.check(from, message.get()).err();
+    let met = hub.route(from, message).err();
+    if told == met { met } else { None }
 }
 
 /// Why a query of a party is not routed.

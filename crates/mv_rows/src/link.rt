@@ -24,6 +24,14 @@ fn number_of(relayed: Result<Frame, LinkFault>) -> u32 {
     }
 }
 
+/// The number of the message that the next item of a link is a receipt of, else 0.
+fn number_of_next(link: &Outgoing) -> u32 {
+    match link.next() {
+        Some(Item::Receipt { k, .. }) => *k,
+        _ => 0,
+    }
+}
+
 /// Pushes an item where there is room for it.
 fn push(link: &mut Outgoing, k: u32) -> bool {
     link.room(1) && link.push(receipt(k)).is_ok()
@@ -54,7 +62,7 @@ fn takes_no_item_into_a_full_window(rt: HostRuntime) -> Result<(), AllocError> {
     assert!(rt; push(&mut link, 1));
     assert!(rt; push(&mut link, 2));
     assert!(rt; !push(&mut link, 3));
-    assert_eq!(rt; number_of(link.next()), 1);
+    assert_eq!(rt; number_of_next(&link), 1);
     assert_eq!(rt; number_of(link.relay()), 1);
     assert!(rt; push(&mut link, 3));
     assert_eq!(rt; link.total(), 3);
@@ -74,6 +82,7 @@ fn gives_again_the_frames_of_its_window_alone(rt: HostRuntime) {
     assert_eq!(rt; number_of(link.again(3)), 3);
     assert_eq!(rt; refusal(&link, 4), "L2");
     assert!(rt; matches!(link.relay(), Err(LinkFault::Nothing)));
+    assert!(rt; link.next().is_none());
 }
 
 #[test]

@@ -44,7 +44,7 @@ fn put_receipt(links: &mut PairTable<Outgoing>, routing: &Routing<'_>)
     let receipt = Item::Receipt {
         k: routing.k,
         reach: Reached::of(routing.reached),
-        query: is_query(routing.message.get()),
+        query: is_query(routing.message),
     };
     put_one(links.at_mut(routing.from, routing.from), receipt);
 }

@@ -1,13 +1,13 @@
 //! What the hub does with its links: it relays, repeats and closes.
 
-ghost use Rattle.std.specs.Prelude.{◌≡◌, ◌+◌, ◌<◌, ◌≤◌, length, IfOk, OnOk, OnErr};
+ghost use Rattle.std.specs.Prelude.{◌≡◌, ◌+◌, ◌<◌, ◌≤◌, length, None, Some, IfErr, IfOk, OnOk, OnErr};
 ghost use Rattle.mv_link.specs.Frames.{IsFrameOf};
 ghost use Rattle.mv_link.specs.Fault.{FailsBy};
 ghost use Rattle.mv_hub.specs.Hub.{are_parties, sent_of, items_on, relay_fault, repeat_fault, close_fault, with_relayed, with_closed};
 
 use crate::hub::Hub;
 use crate::{Entry, HubFault};
-use mv_link::Frame;
+use mv_link::{Frame, Item};
 use mv_message::Party;
 
 impl Hub {
@@ -38,19 +38,38 @@ impl Hub {
         self.link(from, to).sent()
     }
 
-    /// The next frame of the link from one party to another that was not relayed yet. It stays the next.
+    /// The next item of the link from one party to another that was not relayed yet, under its number. It stays the next.
     ///
     /// The first of these that holds is the fault: H4, one of the parties is none; H8, every item of the link has been
-    /// relayed; H7, memory was refused.
-    pub fn next_frame(&self, from: Party, to: Party) -> Result<Frame, HubFault>
-        ensures number { IfOk result (λ frame. frame.number ≡ sent_of self.now from to + 1) }
-        ensures frame { IfOk result (λ frame. IsFrameOf (items_on self.now from to) frame) }
-        ensures fault { FailsBy HubFault.Memory (relay_fault self.now from to) result }
+    /// relayed.
+    pub fn next_item(&self, from: Party, to: Party) -> Result<(u32, &Item), HubFault>
+        ensures number { IfOk result (λ next. next.0 ≡ sent_of self.now from to + 1) }
+        ensures item { IfOk result (λ next. IsFrameOf (items_on self.now from to)
+            (record { number = next.0; item = next.1.now })) }
+        ensures waiting { OnOk result
+            (sent_of self.now from to < length (items_on self.now from to)) }
+        ensures ok { OnOk result (relay_fault self.now from to ≡ None) }
+        ensures err { IfErr result (λ fault. relay_fault self.now from to ≡ Some fault) }
     {
         if !self.are_parties(from, to) {
             return Err(HubFault::StrangerParty);
         }
-        Ok(self.link(from, to).next()?)
+        let link = self.link(from, to);
+        match link.next() {
+            Some(item) => Ok((link.sent() + 1, item)),
+            None => Err(HubFault::Nothing),
+        }
+    }
+
+    /// Counts the next item of the link from one party to another, which is there, as relayed.
+    #[tactic(auto, using(crate::proofs::HubLemmas::sent_at))]
+    pub fn advance(&mut self, from: Party, to: Party)
+        requires from { from < length self.old.parties }
+        requires to { to < length self.old.parties }
+        requires waiting { sent_of self.old from to < length (items_on self.old from to) }
+        ensures { self.new ≡ with_relayed self.old from to }
+    {
+        self.links.at_mut(from, to).advance();
     }
 
     /// The next frame of the link from one party to another that was not relayed yet.

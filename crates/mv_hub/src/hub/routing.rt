@@ -1,7 +1,7 @@
 //! How a message is routed. Only the links that gain something are looked at: those to the parties that it reaches, and
 //! that of its sender to itself.
 
-ghost use Rattle.std.specs.Prelude.{◌≡◌, ◌+◌, ◌<◌, length, replicate, IfOk, OnOk, OnErr};
+ghost use Rattle.std.specs.Prelude.{◌≡◌, ◌+◌, ◌<◌, length, None, Some, replicate, IfOk, IfErr, OnOk, OnErr};
 ghost use Rattle.mv_hub.specs.Words.{NUMBER_LIMIT, parties_in};
 ghost use Rattle.mv_hub.specs.Record.{routed_count};
 ghost use Rattle.mv_hub.specs.Targets.{reach};
@@ -22,7 +22,7 @@ pub(super) struct Routing<'a> {
     /// Whose message it is.
     pub(super) from: Party,
     /// The message.
-    pub(super) message: &'a Shared<Message>,
+    pub(super) message: &'a Message,
     /// Its number among the messages of the party, from one.
     pub(super) k: u32,
     /// Its place in the record, from one.
@@ -35,7 +35,7 @@ pub(super) struct Routing<'a> {
 
 impl Hub {
     /// How the next message of a party is routed.
-    fn routing<'a>(&self, from: Party, message: &'a Shared<Message>) -> Routing<'a>
+    fn routing<'a>(&self, from: Party, message: &'a Message) -> Routing<'a>
         requires from { from < length self.now.parties }
         requires short_record { length self.now.entries < NUMBER_LIMIT }
         ensures from { result.from ≡ from }
@@ -48,7 +48,7 @@ impl Hub {
             k: self.routed_count(from) + 1,
             stamp: self.record().len() as u32 + 1,
             receipted: self.is_open(from, from),
-            reached: self.reached(from, message.get()),
+            reached: self.reached(from, message),
         }
     }
 
@@ -80,6 +80,40 @@ impl Hub {
         None
     }
 
+    /// How the next message of a party is routed, or why it is not, memory aside.
+    #[tactic(auto, unfolding(crate::specs::Hub::route_fault))]
+    fn next_routing<'a>(&self, from: Party, message: &'a Message) -> Result<Routing<'a>, RouteFault>
+        requires { length self.now.entries < NUMBER_LIMIT }
+        ensures from { IfOk result (λ routing. routing.from ≡ from) }
+        ensures message { IfOk result (λ routing. routing.message.now ≡ message.now) }
+        ensures routing { IfOk result (λ routing. IsRouting self.now routing) }
+        ensures free { IfOk result (λ routing. busy_party self.now routing.from routing.message.now ≡ None) }
+        ensures ok { OnOk result (route_fault self.now from message.now ≡ None) }
+        ensures err { IfErr result (λ fault. route_fault self.now from message.now ≡ Some fault) }
+    {
+        if from >= self.parties().len() {
+            return Err(RouteFault::StrangerParty);
+        }
+        let routing = self.routing(from, message);
+        match self.busy_party(&routing) {
+            Some(to) => Err(RouteFault::Busy(to)),
+            None => Ok(routing),
+        }
+    }
+
+    /// Whether the next message of a party can be routed now, memory aside. Nothing changes.
+    ///
+    /// The first of these that holds is the fault: H4, there is no such party; H5, a link has no room for what it would
+    /// gain, the least such.
+    pub fn check(&self, from: Party, message: &Message) -> Result<(), RouteFault>
+        requires { length self.now.entries < NUMBER_LIMIT }
+        ensures ok { OnOk result (route_fault self.now from message.now ≡ None) }
+        ensures err { IfErr result (λ fault. route_fault self.now from message.now ≡ Some fault) }
+    {
+        self.next_routing(from, message)?;
+        Ok(())
+    }
+
     /// Routes the next message of a party: it goes into the record, a receipt of it onto the party's link to itself, while that is
     /// open, and the message onto the link to each party that it reaches, under its place in the record as stamp. Answers its
     /// number among the messages of the party, from one, and whom it reaches.
@@ -100,13 +134,7 @@ impl Hub {
         ensures err { OnErr result (self.new ≡ self.old) }
         ensures fault { FailsBy RouteFault.Memory (route_fault self.old from message.now) result }
     {
-        if from >= self.parties().len() {
-            return Err(RouteFault::StrangerParty);
-        }
-        let routing = self.routing(from, message);
-        if let Some(to) = self.busy_party(&routing) {
-            return Err(RouteFault::Busy(to));
-        }
+        let routing = self.next_routing(from, message.get())?;
         let shares = shares_of(self.alloc, message, routing.reached)?;
         let (k, message) = (routing.k, message.share()?);
         self.trail.push(Entry::Routed { from, k, message })?;

@@ -1,4 +1,4 @@
-use Rattle.std.proofs.Common.{◌<◌, length, sym, arith}
+use Rattle.std.proofs.Common.{◌<◌, length, arith}
 use Rattle.mv_hub.proofs.LinksLemmas.{row-same}
 use Rattle.mv_hub.proofs.HubLemmas.{rooms, next-gain, kept-routed}
 use Rattle.mv_hub.proofs.hub.Hub.route.Goals as goal
@@ -6,16 +6,16 @@ use Rattle.mv_hub.proofs.hub.Hub.route.Goals as goal
 -- no link is busy, so each has room
 pub put_gains-requires-clause-room : goal.put_gains-requires-clause-room
 put_gains-requires-clause-room c = λ to lt.
-    let known = rw (← c.self.view_is) at c.routing-routing.ensures.routing in
+    let known = rw (← c.self.view_is) at c.in_ok-routing.ensures.routing in
     let is_to : to < length c.self.inside.parties = omega (arith, lt, c.self.invariant.square.rows) in
     rw (next-gain _ _ to known)
-    (rooms c.self.invariant _ _ known.party (sym (rw (← c.self.view_is) at c.in_default.ensures)) to is_to)
+    (rooms c.self.invariant _ _ known.party (rw (← c.self.view_is) at c.in_ok-routing.ensures.free) to is_to)
 
 pub invariant_of-self-2 : goal.invariant_of-self-2
 invariant_of-self-2 c =
-    let routing = c.routing-routing.result in
-    let known = rw (← c.self.view_is) at c.routing-routing.ensures.routing in
+    let routing = c.in_ok-routing.routing in
+    let known = rw (← c.self.view_is) at c.in_ok-routing.ensures.routing in
     let gains = rw c.self.invariant.square.rows at c.put_gains.ensures in
-    rw (c.in_ok-push.ensures.ok, c.in_ok-message.ensures, known.number, ← c.routing-routing.ensures.from, ← c.routing-routing.ensures.message)
+    rw (c.in_ok-push.ensures.ok, c.in_ok-message.ensures, known.number, ← c.in_ok-routing.ensures.from, ← c.get.ensures, ← c.in_ok-routing.ensures.message)
     (kept-routed c.self.invariant c.put_gains.new.links routing.from routing.message.now known.party
-    (sym (rw (← c.self.view_is) at c.in_default.ensures)) (row-same (λ to lt. next-gain _ routing to known) gains))
+    (rw (← c.self.view_is) at c.in_ok-routing.ensures.free) (row-same (λ to lt. next-gain _ routing to known) gains))

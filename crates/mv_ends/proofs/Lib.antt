@@ -1,5 +1,6 @@
 pub mod Words
 pub mod RingLemmas
+pub mod HandLemmas
 pub mod EndLemmas
 pub mod SiteEndLemmas
 pub mod OpeningLemmas

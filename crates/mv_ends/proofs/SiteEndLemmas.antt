@@ -1,25 +1,28 @@
 -- What a repository's end keeps as it takes frames.
-use Rattle.mv_ends.proofs.Words.{◌≡◌, ◌<◌, ℕ, List, [], ◌∷◌, ◌++◌, length, arith, Bool, None, false, eqb, append-nil, drop, refl, subst, sym, Option, Err, nat_tests, get_or-set_same, get_or-set_other, sent, Message, Item, Frame, accepted, one_more, items_from, SiteState, FailsBy, Taken, apply_fault, with_taken, Submitted, Refused, Memory, refusal_of, reply_to, RepoEnd, IsFront, with_item, stands_to, AreAccepted, is_full, IsRepoUnchanged, Submits, TakesFrame, Applies, Look, Refusal, eq-eqb, option_map_or}
+use Rattle.mv_ends.proofs.Words.{◌≡◌, ◌<◌, ℕ, List, [], ◌∷◌, ◌++◌, length, arith, Bool, None, Some, ap, ◌∙◌, Reply, IsPassedAs, false, true, is_some, known_free, Inflow, Outlet, IsTakenAs, eqb, append-nil, drop, refl, subst, sym, nat_tests, get_or-set_same, get_or-set_other, sent, Message, Item, Frame, accepted, one_more, items_from, SiteState, Taken, apply_fault, with_taken, Submitted, Refused, Memory, refusal_of, reply_to, RepoEnd, IsFront, with_item, stands_to, AreAccepted, is_full, IsRepoUnchanged, Submits, TakesFrame, Applies, Look, Refusal, eq-eqb}
 use Rattle.mv_link.specs.declared.incoming.Look.TheVariants as look
+use Rattle.mv_repository.specs.Verdict.{answer_after}
+use Rattle.mv_party.specs.Calls.{answer_fault}
 use Rattle.mv_party.specs.declared.fault.SiteFault.{SiteFault}
-use Rattle.mv_party.specs.declared.fault.SiteFault.TheVariants as site_fault
 use Rattle.mv_party.proofs.CallerLemmas.{items_from-push}
 use Rattle.std.proofs.Math.Seq.{drop-append_seam}
 
--- a fault of the party calls for its refusal
-pub refused_for : (A : Type 0) (expected : Option SiteFault) (fault : SiteFault) → FailsBy {A = A} site_fault.Memory expected (Err fault)
-    → refusal_of fault ≡ option_map_or refusal_of expected Memory
-refused_for A expected fault is = grind (arith, nat_tests)
+-- one frame alone is at the front
+pub one_front : {T : Type 0} (inlets : Inflow T) (from : ℕ) (one other : T) → IsFront inlets from one → IsFront inlets from other → one ≡ other
+one_front inlets from one other first second = grind (arith, first.1, second.1)
 
--- want of memory is told of no other fault
-pub memory_told : (fault : SiteFault) → refusal_of fault ≡ Memory → fault ≡ site_fault.Memory
-memory_told fault is = grind (arith, nat_tests)
-
--- where the party refuses a frame, no frame was taken
+-- where the party refuses the frame at the front, no frame was taken
 pub apply_refused : (from : ℕ) (old new : RepoEnd) (frame : Frame) (fault : SiteFault) → IsRepoUnchanged old new
-    → IsFront new.inlets from frame → refusal_of fault ≡ option_map_or refusal_of (apply_fault (is_full new.uplink) old.site from frame.item (stands_to old.site from frame)) Memory
-    → (refusal_of fault ≡ Memory → stands_to old.site from frame ≡ look.Next) → Applies from old new (Refused (refusal_of fault))
-apply_refused from old new frame fault unchanged front why next = grind (arith, nat_tests)
+    → IsFront new.inlets from frame → apply_fault (is_full new.uplink) old.site from frame.item (stands_to old.site from frame) ≡ Some fault
+    → stands_to old.site from frame ≡ look.Next → new.inlets.in_hand ≡ old.inlets.in_hand → Applies from old new (Refused (refusal_of fault))
+apply_refused from old new frame fault unchanged front why next stays = grind (arith, nat_tests)
+
+-- where it refuses none, want of memory alone refuses the next
+pub apply_wanting : (from : ℕ) (old new : RepoEnd) (frame : Frame) → IsRepoUnchanged old new → IsFront new.inlets from frame
+    → apply_fault (is_full new.uplink) old.site from frame.item look.Next ≡ None → stands_to old.site from frame ≡ look.Next
+    → Applies from old new (Refused Memory)
+apply_wanting from old new frame unchanged front free next =
+    (unchanged, (frame, front, rw (next, free) refl, λ _. next, λ other. absurd (other refl)))
 
 -- what a party takes whatever room its uplink has, it takes where that has room
 pub taken_freely : (full : Bool) (site : SiteState) (from : ℕ) (item : Item) (stands : Look) → apply_fault full site from item stands ≡ None → apply_fault false site from item stands ≡ None
@@ -29,13 +32,41 @@ taken_freely full site from item stands free = grind (arith, nat_tests)
 pub apply_taken : (from number : ℕ) (old new : RepoEnd) (taken : Taken) → TakesFrame from old new (reply_to number taken) → Applies from old new (reply_to number taken)
 apply_taken from number old new taken takes = grind (arith, nat_tests)
 
--- a party that takes a frame that is not the next submits nothing more
-pub none_more : (site : SiteState) (sender : ℕ) (item : Item) (stands : Look) → (stands ≡ look.Next → ⊥) → site.submissions ++ [] ≡ (with_taken site sender item stands).submissions
-none_more site sender item stands other = grind (arith, nat_tests, append-nil)
-
 -- what was submitted more stands behind what was submitted
 pub more_submitted : (old more new : List Message) → old ++ more ≡ new → more ≡ drop (length old) new
 more_submitted old more new is = subst (λ l. more ≡ drop (length old) l) is (sym (drop-append_seam old more))
+
+module _ (from number : ℕ) (old looked new : RepoEnd) (taken : Taken) (site : looked.site ≡ old.site) (pushed : sent looked.uplink ≡ sent old.uplink)
+    (inlets : looked.inlets.taken ≡ old.inlets.taken) where
+  -- what is taken at an end that was looked at is taken at that end
+  taken_after : (reply : Reply) → TakesFrame from looked new reply → TakesFrame from old new reply
+  taken_after reply takes = grind (arith, takes.sender, takes.frame)
+
+  pub applied_after : TakesFrame from looked new (reply_to number taken) → Applies from old new (reply_to number taken)
+  applied_after takes = apply_taken from number old new taken (taken_after (reply_to number taken) takes)
+
+-- a frame that is not the next changes nothing
+pub passed : (site : SiteState) (from : ℕ) (item : Item) (stands : Look) → (stands ≡ look.Next → ⊥)
+    → (with_taken site from item stands ≡ site) × (apply_fault false site from item stands ≡ None)
+passed site from item look.Old other = (refl, refl)
+passed site from item (look.Gap expected) other = (refl, refl)
+passed site from item look.Next other = absurd (other refl)
+
+-- the end of a party that takes a frame that is not the next
+pub passes : (from number : ℕ) (old new : RepoEnd) (taken : Taken) (frame : Frame) → from < old.site.parties → IsPassedAs old.site from number taken frame
+    → new.inlets.taken ≡ with_item old.inlets.taken from frame → new.site ≡ old.site → sent new.uplink ≡ sent old.uplink
+    → TakesFrame from old new (reply_to number taken)
+passes from number old new taken frame party is takes site pushed =
+    let none = passed old.site from frame.item (stands_to old.site from frame) is.other in
+    record {
+      sender = party;
+      frame = frame;
+      free = none.1;
+      taken = takes;
+      site = site ∙ sym none.0;
+      pushed = rw (site, pushed) (sym (append-nil (sent old.uplink)) ∙ ap (λ l. sent old.uplink ++ l) (more_submitted old.site.submissions [] old.site.submissions (append-nil old.site.submissions)));
+      reply_is = λ i. reply_to (sym is.numbered i) (is.is_taken i);
+    }
 
 module _ (message : Message) (old looked new : RepoEnd) (site : looked.site ≡ old.site) (pushed : sent looked.uplink ≡ sent old.uplink)
     (inlets : looked.inlets.taken ≡ old.inlets.taken) where
@@ -61,3 +92,11 @@ from_sender site sender frame frames seen = grind (arith, nat_tests, eq-eqb send
 pub accepted_taken : (site : SiteState) (sender : ℕ) (frame : Frame) (taken : List (List Frame)) → sender < length taken → AreAccepted site.parties site.log taken
     → let next = with_taken site sender frame.item (stands_to site sender frame) in AreAccepted next.parties next.log (with_item taken sender frame)
 accepted_taken site sender frame taken there all from in_range = grind (arith, nat_tests, from_other, from_sender, get_or-set_other, get_or-set_same)
+
+-- the next frame of those at the front
+module _ (site : SiteState) (full : Bool) (from : ℕ) (frame : Frame) (is : IsTakenAs site full from look.Next frame) where
+  pub next_free : answer_fault false site (answer_after site.log from frame.item) ≡ None
+  next_free = taken_freely full site from frame.item look.Next is.free
+
+  pub next_room : (uplink : Outlet Message) → full ≡ is_full uplink → is_some (answer_after site.log from frame.item) ≡ true → 0 < known_free uplink
+  next_room uplink e calls = grind (arith, nat_tests, is.free)

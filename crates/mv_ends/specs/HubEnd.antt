@@ -1,6 +1,6 @@
 -- What a contract sees of the hub's end, and what its calls leave, by their replies.
 use Rattle.std.specs.Prelude.{◌≡◌, ◌⊎◌, ℕ, ◌+◌, ◌<◌, List, length, Option, None, IsTrue}
-use Rattle.mv_ends.specs.Words.{Bounds, Closed, Frame, IsFrameOf, Message, Party, Refusal, Refused, Relayed, Repeated, Reply, Routed, UplinkEmpty, WireFull, are_parties, close_fault, hub_refusal_of, items_on, relay_fault, repeat_fault, route_fault, route_refusal_of, routed_count, sent_of, with_closed, with_relayed, with_routed}
+use Rattle.mv_ends.specs.Words.{Bounds, Closed, Frame, IsFrameOf, Memory, Message, Party, Refusal, Refused, Relayed, Repeated, Reply, Routed, UplinkEmpty, WireFull, are_parties, close_fault, hub_refusal_of, items_on, relay_fault, repeat_fault, route_fault, route_refusal_of, routed_count, sent_of, with_closed, with_relayed, with_routed}
 use Rattle.mv_ends.specs.Refusals.{IsRefusedBy}
 use Rattle.mv_hub.specs.declared.fault.HubFault.{HubFault}
 use Rattle.mv_hub.specs.Targets.{reach}
@@ -40,12 +40,13 @@ pub record RoutesFront (from : ℕ) (old new : HubEnd) (reply : Reply) : Type 0 
   pub reply_is : reply ≡ Routed (routed_count old.hub.entries from + 1) (reach old.hub.parties old.hub.entries from message)
 
 -- The message at the front of the uplink was looked at, since the party may have more routed, and it is not routed: for the fault of the
--- hub, or else for want of memory.
+-- hub, or else for want of memory, which alone may leave the message in hand.
 pub record SeesFront (from : ℕ) (old new : HubEnd) (refusal : Refusal) : Type 0 where
   pub below : routed_count old.hub.entries from < old.limits.submissions
   pub message : Message
   pub front : IsFront new.uplinks from message
   pub why : IsRefusedBy route_refusal_of (route_fault old.hub from message) refusal
+  pub in_hand : (refusal ≡ Memory → ⊥) → new.uplinks.in_hand ≡ old.uplinks.in_hand
 
 -- What `route` leaves, by its reply: nothing waited on the uplink where the party may have more routed; a link that has no room has none
 -- for the message at the front of the uplink, and want of memory stands in place of its routing alone.

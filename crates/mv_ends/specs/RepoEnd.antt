@@ -72,10 +72,11 @@ pub record TakesFrame (from : ℕ) (old new : RepoEnd) (reply : Reply) : Type 0 
 
 -- What `apply` leaves, by its reply: no frame is taken where there is no such party, where the link was empty, and where the party
 -- refuses the one at the front, by whether the uplink was full. Want of memory never stands in place of an old frame or one behind a gap.
+-- It alone may leave the frame in hand.
 abbrev pub Applies : ℕ → RepoEnd → RepoEnd → Reply → Type 0
 Applies from old new (Refused Party) = IsRepoUnchanged old new × (from < old.site.parties → ⊥)
 Applies from old new (Refused WireEmpty) = IsRepoUnchanged old new × (from < old.site.parties) × IsEmptyFrom new.inlets from
 Applies from old new (Refused refusal) = IsRepoUnchanged old new × ((frame : Frame) × IsFront new.inlets from frame
     × IsRefusedBy refusal_of (apply_fault (is_full new.uplink) old.site from frame.item (stands_to old.site from frame)) refusal
-    × (refusal ≡ Memory → stands_to old.site from frame ≡ Next))
+    × (refusal ≡ Memory → stands_to old.site from frame ≡ Next) × ((refusal ≡ Memory → ⊥) → new.inlets.in_hand ≡ old.inlets.in_hand))
 Applies from old new reply = TakesFrame from old new reply

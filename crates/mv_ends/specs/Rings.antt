@@ -23,12 +23,13 @@ ring_put end = record { words = end.end.words; slots = end.end.slots; names = en
 abbrev pub is_full : {T : Type 0} → Outlet T → Bool
 is_full end = known_free end == 0
 
--- What is seen of ends of rings that are taken from, by the party that puts there: what was taken of each ring, and what waits on it as
--- far as it is known.
+-- What is seen of ends of rings that are taken from, by the party that puts there: what was taken of each ring, what waits there as far
+-- as it is known, and whether the first of that has left the ring and is in hand.
 pub record Inflow (T : Type 0) : Type 0 where
   pub rings : List Ring
   pub taken : List (List T)
   pub known : List (List T)
+  pub in_hand : List Bool
 
 -- What is seen of the hub's ends of the links, by the party to which and then the one from which: what was put on each ring, and how much
 -- room it is known to have.

@@ -1,4 +1,6 @@
 -- What no clause of a public call names: it is for views, invariants and other ghost members, private functions and proofs.
 pub mod Valid
 pub mod Rings
+pub mod Fronts
+pub mod Taking
 pub mod Whole

@@ -1,46 +1,20 @@
-//! The answer that a frame calls for: its parcel for the uplink, made before anything changes.
+//! How the next frame is applied, and its answer put on the uplink.
 
-ghost use Rattle.std.specs.Prelude.{◌≡◌, ◌<◌, ◌++◌, true, None, is_some, option_to_list, IfOk, IsFalse, OnErr};
+ghost use Rattle.std.specs.Prelude.{◌≡◌, ◌<◌, ◌++◌, true, false, None, is_some, option_to_list, IfOk, IsFalse, OnErr, OnOk};
+ghost use Rattle.mv_link.specs.declared.incoming.Look.TheVariants.{Next};
+ghost use Rattle.mv_link.specs.declared.limits.TheConstants.{NUMBER_LIMIT};
+ghost use Rattle.mv_repository.specs.Verdict.{answer_after};
+ghost use Rattle.mv_party.specs.Site.{count_from, with_applied};
+ghost use Rattle.mv_party.specs.Calls.{answer_fault, taken_by};
 ghost use Rattle.mv_ends.specs.Words.{known_free, sent};
-ghost use Rattle.mv_party.specs.Calls.{apply_fault, with_taken};
-ghost use Rattle.mv_ends.specs.RepoEnd.{stands_to};
 ghost use Rattle.mv_ends.specs.Rings.{ring_put, is_full};
 
 use crate::parcel::Parcel;
-use mv_link::{Frame, Look};
+use mv_link::Item;
 use mv_message::{Message, Party, Shared};
-use mv_party::Site;
+use mv_party::{Site, Taken};
 use rtrb::Producer;
 use std::alloc::{AllocError, Global};
-
-/// What goes on the uplink of the answer that a frame from a party calls for, where the frame is the next and the party can
-/// submit it. Refused for want of memory, where it calls for one.
-#[tactic(auto, using(crate::proofs::SiteEndLemmas::none_more))]
-pub(crate) fn answer_parcel(
-    alloc: Global,
-    site: &Site,
-    from: Party,
-    frame: &Frame,
-    full: bool,
-) -> Result<Option<Parcel<Shared<Message>>>, AllocError>
-    requires { from < site.now.parties }
-    ensures answer { IfOk result (λ parcel. apply_fault full site.now from frame.now.item (stands_to site.now from frame.now) ≡ None
-        → site.now.submissions ++ option_to_list parcel
-        ≡ (with_taken site.now from frame.now.item (stands_to site.now from frame.now)).submissions) }
-    ensures free { OnErr result (apply_fault full site.now from frame.now.item (stands_to site.now from frame.now) ≡ None) }
-    ensures next { OnErr result (stands_to site.now from frame.now ≡ Look.Next) }
-{
-    if site.look(from, frame) != Look::Next {
-        return Ok(None);
-    }
-    if let Err(_) = site.check_answer(&frame.item, full) {
-        return Ok(None);
-    }
-    match site.answer(from, &frame.item) {
-        Some(answer) => Ok(Some(Parcel::of_message(alloc, answer)?)),
-        None => Ok(None),
-    }
-}
 
 /// Whether an uplink has no room. The hub may make room at any time.
 pub(crate) fn is_full(uplink: &mut Producer<Parcel<Shared<Message>>>) -> bool
@@ -52,16 +26,33 @@ pub(crate) fn is_full(uplink: &mut Producer<Parcel<Shared<Message>>>) -> bool
     uplink.is_full()
 }
 
-/// Puts an answer on an uplink that has room for it, where there is one.
-pub(crate) fn put_answer(
+/// Applies the item of the next frame from a party, and puts the answer that it calls for on the uplink, where it calls for one. Refused for
+/// want of memory, nothing has changed.
+pub(crate) fn accept(
+    alloc: Global,
+    site: &mut Site,
     uplink: &mut Producer<Parcel<Shared<Message>>>,
-    answer: Option<Parcel<Shared<Message>>>,
-)
-    requires { is_some answer ≡ true → 0 < known_free uplink.old }
+    from: Party,
+    item: &Item,
+) -> Result<Taken, AllocError>
+    requires from { from < site.old.parties }
+    requires count { count_from site.old.log from < NUMBER_LIMIT }
+    requires free { answer_fault false site.old (answer_after site.old.log from item.now) ≡ None }
+    requires room { is_some (answer_after site.old.log from item.now) ≡ true → 0 < known_free uplink.old }
+    ensures value { IfOk result (λ taken. taken ≡ taken_by site.old from item.now Next) }
+    ensures ok { OnOk result (site.new ≡ with_applied site.old from item.now) }
+    ensures put { OnOk result (sent uplink.new ≡ sent uplink.old ++ option_to_list (answer_after site.old.log from item.now)) }
+    ensures err { OnErr result (site.new ≡ site.old) }
+    ensures unsent { OnErr result (uplink.new ≡ uplink.old) }
     ensures same { ring_put uplink.new ≡ ring_put uplink.old }
-    ensures put { sent uplink.new ≡ sent uplink.old ++ option_to_list answer }
 {
-    if let Some(parcel) = answer {
-        uplink.push_reserved(parcel);
-    }
+    let Some(answer) = site.answer(from, item) else {
+        return site.accept(from, item, None);
+    };
+    let kept = Shared::new(alloc, answer.copy(alloc)?)?;
+    let parcel = Parcel::of_message(alloc, answer)?;
+    let taken = site.accept(from, item, Some(kept))?;
+    // Nothing fails from here on: the answer goes out before its query's frame is taken.
+    uplink.push_reserved(parcel);
+    Ok(taken)
 }

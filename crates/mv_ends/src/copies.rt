@@ -17,12 +17,16 @@ pub(crate) fn copy_of_message(
     Parcel::of_message(alloc, message.copy(alloc)?)
 }
 
-/// A copy of a frame, with a copy of the message that it carries. Refused for want of memory.
-pub(crate) fn copy_of_frame(alloc: Global, frame: &Frame) -> Result<Parcel<Frame>, AllocError>
-    ensures { IfOk result (λ parcel. parcel ≡ frame.now) }
+/// A copy of an item of a link, under its number: a frame. Refused for want of memory.
+pub(crate) fn copy_of_item(
+    alloc: Global,
+    number: u32,
+    item: &Item,
+) -> Result<Parcel<Frame>, AllocError>
+    ensures number { IfOk result (λ parcel. parcel.number ≡ number) }
+    ensures item { IfOk result (λ parcel. parcel.item ≡ item.now) }
 {
-    let number = frame.number;
-    match &frame.item {
+    match item {
         Item::Receipt { k, reach, query } => {
             Ok(Parcel::of_receipt(number, *k, reach.copy(), *query))
         }

@@ -4,9 +4,9 @@ ghost use Rattle.std.specs.Prelude.{◌≡◌, ◌<◌, ◌≤◌, ℕ, [], leng
 ghost use Rattle.mv_ends.specs.Words.{IsFrameOf, IsLawfulAt, IsLawfulRecord, IsSquare, are_parties, items_on, new_hub};
 ghost use Rattle.mv_ends.specs.inside.Valid.{TookAll, AreOfLinks, AreWithin, IsLawfulRecord-prop};
 
-use crate::copies::copy_of_frame;
+use crate::copies::copy_of_item;
+use crate::inlets::Inlets;
 use crate::parcel::Parcel;
-use crate::parcel::inlets::Inlets;
 use crate::repo_end::RepoEnd;
 use crate::wires::Wires;
 use mv_hub::{Entry, Hub, Parties};
@@ -112,7 +112,7 @@ impl HubEnd {
     /// Answers `Routed`, or the first of these refusals that holds: S1, there is no such party; S5, no message of the party
     /// is there to be routed, or as many of its messages were routed as it may submit; S6, a link has no room; S14, memory was
     /// refused. S5 may be told though a message was just put on the uplink.
-    #[tactic(auto, using(crate::proofs::EndLemmas::room_left, crate::proofs::EndLemmas::lawful_routed))]
+    #[tactic(auto, using(crate::proofs::EndLemmas::room_left, crate::proofs::EndLemmas::lawful_routed, crate::proofs::EndLemmas::route_refused, crate::proofs::EndLemmas::route_wanting))]
     pub fn route(&mut self, from: Party) -> Reply
         ensures same { SameHubEnd self.old self.new }
         ensures reply { Routes from self.old self.new result }
@@ -126,12 +126,17 @@ impl HubEnd {
         if self.uplinks.is_empty(from) {
             return Reply::Refused(Refusal::UplinkEmpty);
         }
-        match self.hub.route(from, self.uplinks.front(from)) {
+        if let Err(fault) = self.hub.check(from, self.uplinks.message(from)) {
+            return Reply::Refused(Refusal::from(fault));
+        }
+        // Want of memory alone refuses it from here on, and leaves it in hand.
+        self.uplinks.open(from);
+        match self.hub.route(from, self.uplinks.in_hand(from)) {
             Ok((k, reach)) => {
                 let _message = self.uplinks.take(from);
                 Reply::Routed { k, reach }
             }
-            Err(fault) => Reply::Refused(Refusal::from(fault)),
+            Err(_) => Reply::Refused(Refusal::Memory),
         }
     }
 
@@ -146,20 +151,17 @@ impl HubEnd {
         if let Some(refusal) = self.put_refusal(from, to) {
             return Reply::Refused(refusal);
         }
-        let frame = match self.hub.next_frame(from, to) {
-            Ok(frame) => frame,
+        let (number, item) = match self.hub.next_item(from, to) {
+            Ok(next) => next,
             Err(fault) => return Reply::Refused(Refusal::from(fault)),
         };
-        let Ok(parcel) = copy_of_frame(self.alloc, &frame) else {
+        let Ok(parcel) = copy_of_item(self.alloc, number, item) else {
             return Reply::Refused(Refusal::Memory);
         };
-        let Ok(relayed) = self.hub.relay(from, to) else {
-            return Reply::Refused(Refusal::Memory);
-        };
+        // Nothing fails from here on.
+        self.hub.advance(from, to);
         self.put(from, to, parcel);
-        Reply::Relayed {
-            number: relayed.number,
-        }
+        Reply::Relayed { number }
     }
 
     /// Puts the frame of this number of a link on its ring once more, one that was relayed before.
@@ -178,7 +180,7 @@ impl HubEnd {
             Ok(frame) => frame,
             Err(fault) => return Reply::Refused(Refusal::from(fault)),
         };
-        let Ok(again) = copy_of_frame(self.alloc, &frame) else {
+        let Ok(again) = copy_of_item(self.alloc, number, &frame.item) else {
             return Reply::Refused(Refusal::Memory);
         };
         self.put(from, to, again);

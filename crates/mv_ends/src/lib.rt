@@ -29,7 +29,10 @@
 
 mod answering;
 mod copies;
+mod front;
 mod hub_end;
+mod inlet;
+mod inlets;
 mod laws;
 mod opening;
 mod outcome;
@@ -38,10 +41,10 @@ mod repo_end;
 mod wires;
 
 pub use hub_end::HubEnd;
+pub use inlets::Inlets;
 pub use laws::{ends_stay_ends, hub_end_stays, repo_end_stays, repo_ends_stay};
 pub use opening::open;
 pub use outcome::{Outcome, gather};
 pub use parcel::Parcel;
-pub use parcel::inlets::Inlets;
 pub use repo_end::{RepoEnd, Unsubmitted};
 pub use wires::Wires;

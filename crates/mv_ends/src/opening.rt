@@ -7,15 +7,16 @@ ghost use Rattle.mv_ends.specs.Whole.{AreEnds, state_of};
 ghost use Rattle.mv_ends.specs.inside.Whole.{AreOpened};
 
 use crate::hub_end::HubEnd;
+use crate::inlet::Inlet;
+use crate::inlets::Inlets;
 use crate::parcel::Parcel;
-use crate::parcel::inlets::Inlets;
 use crate::repo_end::RepoEnd;
 use crate::wires::Wires;
 use mv_hub::Parties;
 use mv_link::Frame;
 use mv_machine::Limits;
 use mv_message::{Message, Shared};
-use rtrb::{Consumer, Producer, RingBuffer};
+use rtrb::{Producer, RingBuffer};
 use std::alloc::{AllocError, Global};
 
 /// The hub's ends of the links to one party, by sender.
@@ -25,7 +26,7 @@ type Outlets = Vec<Producer<Parcel<Frame>>>;
 #[derive(Drop)]
 struct Opened {
     /// The hub's ends of the uplinks.
-    uplinks: Vec<Consumer<Parcel<Shared<Message>>>>,
+    uplinks: Vec<Inlet<Shared<Message>>>,
     /// The hub's ends of the links to each.
     rows: Vec<Outlets>,
     /// Their own ends.
@@ -77,7 +78,7 @@ impl Opened {
         let (producer, uplink) = RingBuffer::<Parcel<Shared<Message>>>::new(alloc, room)?;
         let repo = RepoEnd::new(alloc, party, count, limits, producer, inlets)?;
         // Nothing fails from here on.
-        self.uplinks.push_reserved(uplink);
+        self.uplinks.push_reserved(Inlet::new(uplink));
         self.rows.push_reserved(row);
         self.repos.push_reserved(repo);
         Ok(())
@@ -94,7 +95,7 @@ fn open_links(alloc: Global, count: u32, room: u32) -> Result<(Outlets, Inlets<F
     for _from in 0..count {
         let (producer, consumer) = RingBuffer::<Parcel<Frame>>::new(alloc, room as usize)?;
         outlets.push(producer)?;
-        inlets.push(consumer)?;
+        inlets.push(Inlet::new(consumer))?;
     }
     Ok((outlets, Inlets::new(inlets)))
 }

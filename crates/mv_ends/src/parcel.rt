@@ -2,20 +2,19 @@
 //!
 //! Whoever puts something on a ring keeps what it has, and may share that among its own lists. So
 //! what goes on a ring is a parcel, of which nobody else holds anything. Parcels are made here
-//! alone, of values: a message that is given by value holds nothing that is shared. A parcel of a
-//! message lends the message, which cannot be shared. What can be shared is lent to the end that
-//! takes from the ring alone (`inlets`). A parcel is opened by value, and then it is none any more.
-//! A message that is given to an end by value is a parcel too, so that no two ends are given the
-//! same.
+//! alone, of values: a message that is given by value holds nothing that is shared. A parcel lends
+//! plain values, and nothing that could be shared. It is opened by value, and then it is none any
+//! more. A message that is given to an end by value is a parcel too, so that no two ends are given
+//! the same.
 
 ghost use Rattle.std.specs.Prelude.{◌≡◌, IfOk};
+ghost use Rattle.mv_ends.specs.inside.Fronts.{IsFrontOf};
 
+use crate::front::Front;
 use mv_link::{Frame, Item, Reached};
 use mv_message::{Message, Shared};
 use std::alloc::{AllocError, Global};
 use std::marker::Model;
-
-pub(crate) mod inlets;
 
 /// Something in memory of its own, of which nobody else holds anything. Contracts see what is in it.
 #[derive(Drop)]
@@ -88,4 +87,23 @@ impl Parcel<Frame> {
         let inside = Frame { number, item };
         Ok(Parcel { inside })
     }
+
+    /// The number of the frame, and whether it asks.
+    pub(crate) fn front(&self) -> Front
+        ensures { IsFrontOf self.now result }
+    {
+        front_of(&self.inside)
+    }
+}
+
+/// What an end sees of this frame.
+pub(crate) fn front_of(frame: &Frame) -> Front
+    ensures { IsFrontOf frame.now result }
+{
+    let asks = match &frame.item {
+        Item::Carried { message, .. } => matches!(message.get(), Message::Query { .. }),
+        Item::Receipt { .. } => false,
+    };
+    let number = frame.number;
+    Front { number, asks }
 }

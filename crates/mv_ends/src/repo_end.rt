@@ -1,20 +1,21 @@
 //! A repository's end: the party, the end of its uplink that it puts messages on, and those of the links that it takes frames
 //! from.
 
-ghost use Rattle.std.specs.Prelude.{◌≡◌, ◌≤◌, [], length, IfOk, IfErr};
+ghost use Rattle.std.specs.Prelude.{◌≡◌, ◌≤◌, ◌<◌, [], true, false, length, slice_index_or, IfOk, IfErr, OnErr};
 ghost use Rattle.mv_ends.specs.Words.{sent, IsLawfulParty, new_site};
 ghost use Rattle.mv_ends.specs.inside.Valid.{AreAccepted};
 ghost use Rattle.mv_repository.specs.Verdict.{joint_verdict};
 
-use crate::answering::{answer_parcel, is_full, put_answer};
+use crate::answering::{accept, is_full};
 use crate::copies::copy_of_message;
+use crate::front::Front;
+use crate::inlets::Inlets;
 use crate::parcel::Parcel;
-use crate::parcel::inlets::Inlets;
-use mv_link::Frame;
+use mv_link::{Frame, Look};
 use mv_machine::{Limits, Refusal, Reply};
 use mv_message::{Message, Party, Shared};
 use mv_pack::PackKey;
-use mv_party::Site;
+use mv_party::{Site, Taken};
 use mv_repository::{Local, LogEntry, Repository};
 use rtrb::Producer;
 use std::alloc::{AllocError, Global};
@@ -60,7 +61,13 @@ pub struct Unsubmitted {
 
 impl RepoEnd {
     ghost use Rattle.mv_ends.specs.inside.Rings.{AreEmpty};
-    ghost use Rattle.mv_ends.specs.RepoEnd.{SameRepoEnd, Submits, Asks, Verifies, Applies};
+    ghost use Rattle.mv_link.specs.declared.incoming.Look.TheVariants.{Next as LookNext};
+    ghost use Rattle.mv_link.specs.declared.limits.TheConstants.{NUMBER_LIMIT};
+    ghost use Rattle.mv_party.specs.Site.{count_from};
+    ghost use Rattle.mv_ends.specs.Words.{Frame as AFrame, reply_to};
+    ghost use Rattle.mv_ends.specs.Rings.{IsFront, is_full};
+    ghost use Rattle.mv_ends.specs.RepoEnd.{SameRepoEnd, IsRepoUnchanged, TakesFrame, Submits, Asks, Verifies, Applies};
+    ghost use Rattle.mv_ends.specs.inside.Taking.{IsTakenAs, IsPassedAs};
 
     /// The end of a party that did nothing yet, one of so many, with its ends of rings that were not used yet. Refused for want of
     /// memory.
@@ -222,6 +229,7 @@ impl RepoEnd {
     /// Answers `Applied`, `Old` or `Gap`, or the first of these refusals that holds: S1, there is no such party; S8, no frame is
     /// there; S13, the frame is the next and carries a query, and the party can submit no answer now; S14, memory was refused.
     /// S8 and S13 may be told though a frame was just put there, or room just made.
+    #[tactic(auto, using(crate::proofs::SiteEndLemmas::one_front, crate::proofs::SiteEndLemmas::apply_refused, crate::proofs::SiteEndLemmas::applied_after, crate::proofs::SiteEndLemmas::apply_wanting))]
     pub fn apply(&mut self, from: Party) -> Reply
         ensures same { SameRepoEnd self.old self.new }
         ensures reply { Applies from self.old self.new result }
@@ -233,19 +241,54 @@ impl RepoEnd {
             return Reply::Refused(Refusal::WireEmpty);
         }
         let full = is_full(&mut self.uplink);
-        let frame = self.inlets.front(from);
-        let number = frame.number;
-        let Ok(parcel) = answer_parcel(self.alloc, &self.site, from, frame, full) else {
-            return Reply::Refused(Refusal::Memory);
+        let Front { number, asks } = self.inlets.front(from);
+        let look = match self.site.check_frame(from, number, asks, full) {
+            Ok(look) => look,
+            Err(fault) => return Reply::Refused(Refusal::from(fault)),
         };
-        match self.site.apply(from, frame, full) {
-            Ok(taken) => {
-                // Nothing fails from here on: the answer goes out before its query's frame is taken.
-                put_answer(&mut self.uplink, parcel);
-                let _frame = self.inlets.take(from);
-                Reply::of_taken(number, taken)
-            }
-            Err(fault) => Reply::Refused(Refusal::from(fault)),
+        // Want of memory alone refuses it from here on, and leaves it in hand.
+        self.inlets.open(from);
+        match look {
+            Look::Next => match self.apply_next(from) {
+                Ok(taken) => Reply::of_taken(number, taken),
+                Err(_) => Reply::Refused(Refusal::Memory),
+            },
+            Look::Old => self.pass_over(from, number, Taken::Old),
+            Look::Gap { expected } => self.pass_over(from, number, Taken::Gap { expected }),
         }
+    }
+
+    /// Takes the frame in hand of a party, and applies it: it is the next. Refused for want of memory, nothing has changed.
+    #[tactic(auto, using(crate::proofs::SiteEndLemmas::next_free, crate::proofs::SiteEndLemmas::next_room))]
+    fn apply_next(&mut self, from: Party) -> Result<Taken, AllocError>
+        requires from { from < self.old.site.parties }
+        requires count { count_from self.old.site.log from < NUMBER_LIMIT }
+        requires in_hand { slice_index_or self.old.inlets.in_hand from false ≡ true }
+        requires front { (frame : AFrame) → IsFront self.old.inlets from frame
+            → IsTakenAs self.old.site (is_full self.old.uplink) from LookNext frame }
+        ensures same { SameRepoEnd self.old self.new }
+        ensures ok { IfOk result (λ taken. (frame : AFrame) × IsFront self.old.inlets from frame
+            × TakesFrame from self.old self.new (reply_to frame.number taken)) }
+        ensures err { OnErr result (IsRepoUnchanged self.old self.new) }
+        ensures uplink { OnErr result (self.new.uplink ≡ self.old.uplink) }
+        ensures inlets { OnErr result (self.new.inlets ≡ self.old.inlets) }
+    {
+        let item = &self.inlets.in_hand(from).item;
+        let taken = accept(self.alloc, &mut self.site, &mut self.uplink, from, item)?;
+        let _frame = self.inlets.take(from);
+        Ok(taken)
+    }
+
+    /// Takes the frame in hand of a party, of this number, which changes nothing: it is old, or behind a gap.
+    fn pass_over(&mut self, from: Party, number: u32, taken: Taken) -> Reply
+        requires from { from < self.old.site.parties }
+        requires in_hand { slice_index_or self.old.inlets.in_hand from false ≡ true }
+        requires front { (frame : AFrame) → IsFront self.old.inlets from frame → IsPassedAs self.old.site from number taken frame }
+        ensures same { SameRepoEnd self.old self.new }
+        ensures reply { TakesFrame from self.old self.new result }
+        ensures value { result ≡ reply_to number taken }
+    {
+        let _passed = self.inlets.take(from);
+        Reply::of_taken(number, taken)
     }
 }

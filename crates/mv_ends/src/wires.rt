@@ -5,8 +5,8 @@ ghost use Rattle.mv_ends.specs.Words.{IsPrefix, cell};
 ghost use Rattle.mv_ends.specs.Rings.{WireTable, with_frame, HasRoomOn, IsFullOn};
 ghost use Rattle.mv_ends.specs.inside.Rings.{table_of};
 
+use crate::inlets::Inlets;
 use crate::parcel::Parcel;
-use crate::parcel::inlets::Inlets;
 use mv_link::Frame;
 use mv_message::Party;
 use rtrb::Producer;

@@ -1,19 +1,32 @@
 -- Rings, by the end that is taken from, and the tables of all wires.
-use Rattle.std.specs.Prelude.{◌≡◌, ◌<◌, ℕ, List, [], length, map, slice_index_or}
-use Rattle.mv_ends.specs.Words.{All, AnyItems, Frame, Global, Vec, consumer_capacity, known_free, known_items, received, sent}
-use Rattle.rtrb.specs.declared.consumer.Consumer.{Consumer}
+use Rattle.std.specs.Prelude.{◌≡◌, ◌<◌, ◌-◌, ◌++◌, ℕ, List, [], length, map, slice_index_or, option_to_list, is_some, take}
+use Rattle.mv_ends.specs.Words.{All, Frame, Global, Vec, consumer_capacity, known_free, known_items, received, sent}
+pub use Rattle.mv_ends.specs.declared.inlet.Inlet.{Inlet}
 use Rattle.mv_ends.specs.Rings.{Inflow, Outlet, Ring, WireTable, ring_put}
 
--- the end of a ring that is taken from, and the ring as it shows it
-abbrev pub Inlet : Type 0 → Type 0
-Inlet T = Consumer T Global AnyItems
+module _ {T : Type 0} where
+  -- the ring that an end is of, as it shows it
+  abbrev pub ring_taken : Inlet T → Ring
+  ring_taken inlet =
+      let end = inlet.ring.end in
+      record { words = end.words; slots = end.slots; names = end.names; heap = end.heap; size = consumer_capacity inlet.ring }
 
-abbrev pub ring_taken : {T : Type 0} → Inlet T → Ring
-ring_taken end = record { words = end.end.words; slots = end.end.slots; names = end.end.names; heap = end.end.heap; size = consumer_capacity end }
+  -- what was taken by an end: what left the ring, but for what is in hand
+  abbrev pub taken_by : Inlet T → List T
+  taken_by end = take (length (received end.ring) - length (option_to_list end.hand)) (received end.ring)
 
--- what such ends show of the rings to one party
-abbrev pub inflow_of : {T : Type 0} → List (Inlet T) → Inflow T
-inflow_of ends = record { rings = map ring_taken ends; taken = map received ends; known = map known_items ends }
+  -- what is known to wait at an end: what is in hand, and what is on the ring
+  abbrev pub waits_at : Inlet T → List T
+  waits_at end = option_to_list end.hand ++ known_items end.ring
+
+  -- what such ends show of the rings to one party
+  abbrev pub inflow_of : List (Inlet T) → Inflow T
+  inflow_of ends = record {
+    rings = map ring_taken ends;
+    taken = map taken_by ends;
+    known = map waits_at ends;
+    in_hand = map (λ (end : Inlet T). is_some end.hand) ends;
+  }
 
 -- what all ends show of something, row by row
 abbrev pub each_row : {A : Type 0} → (Outlet Frame → A) → List (Vec (Outlet Frame) Global) → List (List A)

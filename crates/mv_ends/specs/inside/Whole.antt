@@ -1,13 +1,13 @@
 -- All ends of one opening, and what they are as the lists of the list machine.
 use Rattle.std.specs.Prelude.{◌≡◌, ℕ, ◌<◌, List, [], length, map, slice_index_or}
 use Rattle.std.specs.List.{range_with_len}
-use Rattle.mv_ends.specs.Words.{Bounds, Frame, Global, Message, Vec, new_site, received, sent, IsLawful, IsWellFormed}
+use Rattle.mv_ends.specs.Words.{Bounds, Frame, Global, Message, Vec, new_site, sent, IsLawful, IsWellFormed}
 use Rattle.mv_ends.specs.declared.hub_end.HubEnd.{HubEnd}
 use Rattle.mv_ends.specs.declared.repo_end.RepoEnd.{RepoEnd}
 use Rattle.mv_ends.specs.HubEnd.{HubSeat}
 use Rattle.mv_ends.specs.RepoEnd.{repo_seat}
 use Rattle.mv_ends.specs.Rings.{Outlet, ring_put}
-use Rattle.mv_ends.specs.inside.Rings.{AreEmpty, Inlet, each_row, ring_taken}
+use Rattle.mv_ends.specs.inside.Rings.{AreEmpty, Inlet, each_row, ring_taken, taken_by}
 use Rattle.mv_ends.specs.Whole.{AreEnds, IsSeatOf, KeepsSubmissions, sites_of, state_of}
 
 -- what stays of a hub's end with these parties and ends of rings
@@ -21,7 +21,7 @@ pub record AreOpened (parties : List (List (List ℕ))) (limits : Bounds) (opene
   pub uplinks_each : length uplinks ≡ opened
   pub rows_each : length rows ≡ opened
   pub repos_each : length repos ≡ opened
-  pub untaken : AreEmpty (map received uplinks)
+  pub untaken : AreEmpty (map taken_by uplinks)
   pub unused : (to : ℕ) → AreEmpty (slice_index_or (each_row sent rows) to [])
   pub wide : (to : ℕ) → to < opened → length (slice_index_or (each_row sent rows) to []) ≡ length parties
   pub sites : sites_of repos ≡ map (λ party. new_site party (length parties) limits.submissions) (range_with_len 0 opened)

@@ -7,9 +7,9 @@ use Rattle.mv_ends.proofs.hub_end.HubEnd.route.Goals as goal
 pub invariant_of-self-in-Ok-clause-took : goal.invariant_of-self-in-Ok-clause-took
 invariant_of-self-in-Ok-clause-took c =
     let hub = c.args.self.now.hub in
-    let message = c.front.result.now in
+    let message = c.in_hand.result.now in
     let taken : c.take-message.new.self.taken ≡ with_item c.args.self.now.uplinks.taken c.args.from message =
-    rw (c.take-message.ensures.takes, c.is_empty.ensures.nothing, c.take-message.ensures.front message c.front.ensures) in
+    rw (c.take-message.ensures.takes, c.«open».ensures.nothing, c.is_empty.ensures.nothing, c.take-message.ensures.front message c.in_hand.ensures) in
     rw (taken, c.in-Ok.ensures.ok)
     (took_routed (length hub.parties) hub.entries c.args.from (routed_count hub.entries c.args.from + 1) message c.args.self.now.uplinks.taken (search rules) c.args.self.now.took)
 
@@ -18,15 +18,15 @@ invariant_of-self-in-Ok-clause-of_links c = rw c.in-Ok.ensures.ok (of_links_ente
 
 pub invariant_of-self-in-Ok-clause-within : goal.invariant_of-self-in-Ok-clause-within
 invariant_of-self-in-Ok-clause-within c =
-    rw c.in-Ok.ensures.ok (within_routed c.args.self.now.limits.submissions c.args.self.now.hub c.args.from _ c.front.result.now (search rules) c.args.self.now.within)
+    rw c.in-Ok.ensures.ok (within_routed c.args.self.now.limits.submissions c.args.self.now.hub c.args.from _ c.in_hand.result.now (search rules) c.args.self.now.within)
 
 pub returns-in-Ok-clause-reply : goal.returns-in-Ok-clause-reply
 returns-in-Ok-clause-reply c =
-    let message = c.front.result.now in
+    let message = c.in_hand.result.now in
     record {
       below = search rules;
       message = message;
-      taken = rw (c.take-message.ensures.takes, c.is_empty.ensures.nothing, c.take-message.ensures.front message c.front.ensures);
+      taken = rw (c.take-message.ensures.takes, c.«open».ensures.nothing, c.is_empty.ensures.nothing, c.take-message.ensures.front message c.in_hand.ensures);
       put = search rules;
       hub = c.in-Ok.ensures.ok;
       free = search rules;
@@ -38,5 +38,5 @@ invariant_of-self-in-Ok-clause-square c = rw c.in-Ok.ensures.ok c.args.self.now.
 
 pub returns-in-Err-clause-reply : goal.returns-in-Err-clause-reply
 returns-in-Err-clause-reply c =
-    rw c.from.ensures (route_refused c.args.self.now _ c.args.from c.front.result.now c.in-Err.fault (search rules) (search rules) (search rules)
-    c.front.ensures (search rules))
+    rw c.from.ensures (route_refused c.args.self.now _ c.args.from c.message.result.now c.in-Err.fault (search rules) (search rules) (search rules)
+    c.message.ensures c.in-Err.ensures.err (search rules))

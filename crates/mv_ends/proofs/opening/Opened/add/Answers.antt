@@ -15,8 +15,8 @@ returns c =
       c.reserve-2.ensures.items,
       c.reserve-3.ensures.items,
     ) (
-    opened_more c.args.parties.now c.args.limits c.args.party _ _ _ c.requires c.in_ok-repo.repo c.in_ok-producer.producer c.in_ok-producer.uplink
-    c.in_ok-row.row c.in_ok-row.inlets (rw c.len-count.ensures.value at opened.site) opened.uplink opened.inlets made.pair
-    (made.producer.2 ∙ c.uplink-room.ensures.value) (made.consumer.2 ∙ c.uplink-room.ensures.value) made.consumer.0
+    opened_more c.args.parties.now c.args.limits c.args.party _ _ _ c.requires c.in_ok-repo.repo c.in_ok-producer.producer c.new-3.result
+    c.in_ok-row.row c.in_ok-row.inlets (rw c.len-count.ensures.value at opened.site) opened.uplink opened.inlets (rw c.new-3.ensures.ring made.pair)
+    (made.producer.2 ∙ c.uplink-room.ensures.value) (rw c.new-3.ensures.ring (made.consumer.2 ∙ c.uplink-room.ensures.value)) (rw c.new-3.ensures.ring made.consumer.0)
     (rw (c.len-count.ensures.value, c.wire.ensures.value) at c.in_ok-row.ensures)
     )

@@ -1,5 +1,5 @@
 -- What the ends keep while their lists grow.
-use Rattle.mv_ends.proofs.Words.{All, AreOfLinks, AreWithin, Entry, Frame, Memory, Some, refl, HubEnd, HubState, IsFrameOf, IsFront, IsLawfulRecord, IsUnchanged, Item, List, Message, None, Refused, Routes, TookAll, [], append-nil, arith, cell, close_fault, get_or-set_other, get_or-set_same, is_open, items_on, length, length-append, nat_tests, put-each_pair, record-entered, route_fault, route_refusal_of, routed_count, slice_get-append, stamps_suffice, true, with_frame, with_item, ℕ, ◌++◌, ◌+◌, ◌<◌, ◌∷◌, ◌≡◌, ◌≤◌}
+use Rattle.mv_ends.proofs.Words.{All, AreOfLinks, AreWithin, Entry, Frame, Memory, Some, refl, HubEnd, HubState, IsFrameOf, IsFront, IsLawfulRecord, IsOpened, IsUnchanged, Item, List, Message, None, Refused, Routes, TookAll, [], append-nil, arith, cell, close_fault, get_or-set_other, get_or-set_same, is_open, items_on, length, length-append, nat_tests, put-each_pair, record-entered, route_fault, route_refusal_of, routed_count, slice_get-append, stamps_suffice, true, with_frame, with_item, ℕ, ◌++◌, ◌+◌, ◌<◌, ◌∷◌, ◌≡◌, ◌≤◌}
 use Rattle.std.proofs.lemmas.List.Elements.{All-push}
 use Rattle.mv_link.specs.declared.limits.TheConstants.{PARTIES_LIMIT, NUMBER_LIMIT}
 use Rattle.mv_party.specs.declared.limits.TheConstants.{SUBMISSIONS_LIMIT}
@@ -57,16 +57,16 @@ lawful_closed hub sender receiver one other was_open lawful = record-entered (le
 -- where the hub does not route a message of a party, the refusal is its fault's
 pub route_refused : (old new : HubEnd) (from : ℕ) (message : Message) (fault : RouteFault) → from < length old.hub.parties → IsUnchanged old new
     → routed_count old.hub.entries from < old.limits.submissions → IsFront new.uplinks from message
-    → route_fault old.hub from message ≡ Some fault → new.uplinks.in_hand ≡ old.uplinks.in_hand → Routes from old new (Refused (route_refusal_of fault))
+    → route_fault old.hub from message ≡ Some fault → Routes from old new (Refused (route_refusal_of fault))
 unfolding route_fault
-route_refused old new from message fault party unchanged below front is stays = grind (arith, nat_tests)
+route_refused old new from message fault party unchanged below front is = grind (arith, nat_tests)
 
 -- where it has no fault, want of memory alone refuses it
-pub route_wanting : (old new : HubEnd) (from : ℕ) (message : Message) → IsUnchanged old new
+pub route_wanting : (old new : HubEnd) (from : ℕ) (message : Message) → IsOpened from old new
     → routed_count old.hub.entries from < old.limits.submissions → IsFront new.uplinks from message
     → route_fault old.hub from message ≡ None → Routes from old new (Refused Memory)
-route_wanting old new from message unchanged below front free =
-    (unchanged, record { below = below; message = message; front = front; why = rw free refl; in_hand = λ other. absurd (other refl) })
+route_wanting old new from message opened below front free =
+    (opened, record { below = below; message = message; front = front; why = rw free refl })
 
 -- a link that can be closed is one of two parties, and open
 pub closable : (hub : HubState) (sender receiver : ℕ) → close_fault hub sender receiver ≡ None

@@ -1,5 +1,5 @@
 -- What ends of rings show as they are called one by one.
-use Rattle.mv_ends.proofs.Words.{◌≡◌, ◌<◌, ◌++◌, ◌∷◌, ◌∙◌, ℕ, List, [], length, map, set, get_or, sym, ap, subst, arith, nat_tests, get_or-map, length-map, length-set, map-set, get_or-set_same, Global, Vec, sent, cell, Frame, Outlet, each_row, with_item, with_frame}
+use Rattle.mv_ends.proofs.Words.{◌≡◌, ◌<◌, ◌++◌, ◌∷◌, ◌∙◌, ℕ, List, [], length, map, set, get_or, sym, ap, subst, arith, nat_tests, get_or-map, length-map, length-set, map-set, get_or-set_same, get_or-set_other, Global, Vec, sent, cell, Frame, Outlet, each_row, with_item, with_frame}
 use Rattle.std.proofs.Math.Seq.{map-set_same}
 
 -- there is one where something is shown
@@ -18,6 +18,11 @@ module _ {A B : Type 0} (xs : List A) (place : ℕ) (old new : A) (below : place
 -- what it shows once it was called
 pub shown_after : {A B : Type 0} (xs : List A) (place : ℕ) (new : A) → place < length xs → (f : A → B) (absent : B) → get_or (map f (set xs place new)) place absent ≡ f new
 shown_after xs place new below f absent = grind (arith, nat_tests, below, get_or-map, get_or-set_same xs place new new below, length-set xs place new)
+
+-- the others show what they showed
+pub shown_other : {A B : Type 0} (xs : List A) (place other : ℕ) (new : A) → (other ≡ place → ⊥) → (f : A → B) (shown : List B) (absent : B)
+    → map f xs ≡ shown → get_or (map f (set xs place new)) other absent ≡ get_or shown other absent
+shown_other xs place other new apart f shown absent is = grind (arith, nat_tests, is, map-set, get_or-set_other)
 
 -- it shows one more item
 pub shows_more : {A B : Type 0} (xs : List A) (place : ℕ) (old new : A) → place < length xs → old ≡ get_or xs place old

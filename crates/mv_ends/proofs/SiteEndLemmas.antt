@@ -1,5 +1,5 @@
 -- What a repository's end keeps as it takes frames.
-use Rattle.mv_ends.proofs.Words.{◌≡◌, ◌<◌, ℕ, List, [], ◌∷◌, ◌++◌, length, arith, Bool, None, Some, ap, ◌∙◌, Reply, IsPassedAs, false, true, is_some, known_free, Inflow, Outlet, IsTakenAs, eqb, append-nil, drop, refl, subst, sym, nat_tests, get_or-set_same, get_or-set_other, sent, Message, Item, Frame, accepted, one_more, items_from, SiteState, Taken, apply_fault, with_taken, Submitted, Refused, Memory, refusal_of, reply_to, RepoEnd, IsFront, with_item, stands_to, AreAccepted, is_full, IsRepoUnchanged, Submits, TakesFrame, Applies, Look, Refusal, eq-eqb}
+use Rattle.mv_ends.proofs.Words.{◌≡◌, ◌<◌, ℕ, List, [], ◌∷◌, ◌++◌, length, arith, Bool, None, Some, ap, ◌∙◌, Reply, IsPassedAs, IsRepoOpened, KeepsOthers, false, true, is_some, known_free, Inflow, Outlet, IsTakenAs, eqb, append-nil, drop, refl, subst, sym, nat_tests, get_or-set_same, get_or-set_other, sent, Message, Item, Frame, accepted, one_more, items_from, SiteState, Taken, apply_fault, with_taken, Submitted, Refused, Memory, refusal_of, reply_to, RepoEnd, IsFront, with_item, stands_to, AreAccepted, is_full, IsRepoUnchanged, Submits, TakesFrame, Applies, Look, Refusal, eq-eqb}
 use Rattle.mv_link.specs.declared.incoming.Look.TheVariants as look
 use Rattle.mv_repository.specs.Verdict.{answer_after}
 use Rattle.mv_party.specs.Calls.{answer_fault}
@@ -14,15 +14,14 @@ one_front inlets from one other first second = grind (arith, first.1, second.1)
 -- where the party refuses the frame at the front, no frame was taken
 pub apply_refused : (from : ℕ) (old new : RepoEnd) (frame : Frame) (fault : SiteFault) → IsRepoUnchanged old new
     → IsFront new.inlets from frame → apply_fault (is_full new.uplink) old.site from frame.item (stands_to old.site from frame) ≡ Some fault
-    → stands_to old.site from frame ≡ look.Next → new.inlets.in_hand ≡ old.inlets.in_hand → Applies from old new (Refused (refusal_of fault))
-apply_refused from old new frame fault unchanged front why next stays = grind (arith, nat_tests)
+    → Applies from old new (Refused (refusal_of fault))
+apply_refused from old new frame fault unchanged front why = grind (arith, nat_tests)
 
 -- where it refuses none, want of memory alone refuses the next
-pub apply_wanting : (from : ℕ) (old new : RepoEnd) (frame : Frame) → IsRepoUnchanged old new → IsFront new.inlets from frame
+pub apply_wanting : (from : ℕ) (old new : RepoEnd) (frame : Frame) → IsRepoOpened from old new → IsFront new.inlets from frame
     → apply_fault (is_full new.uplink) old.site from frame.item look.Next ≡ None → stands_to old.site from frame ≡ look.Next
     → Applies from old new (Refused Memory)
-apply_wanting from old new frame unchanged front free next =
-    (unchanged, (frame, front, rw (next, free) refl, λ _. next, λ other. absurd (other refl)))
+apply_wanting from old new frame opened front free next = (opened, (frame, front, rw next free, next))
 
 -- what a party takes whatever room its uplink has, it takes where that has room
 pub taken_freely : (full : Bool) (site : SiteState) (from : ℕ) (item : Item) (stands : Look) → apply_fault full site from item stands ≡ None → apply_fault false site from item stands ≡ None
@@ -37,10 +36,19 @@ pub more_submitted : (old more new : List Message) → old ++ more ≡ new → m
 more_submitted old more new is = subst (λ l. more ≡ drop (length old) l) is (sym (drop-append_seam old more))
 
 module _ (from number : ℕ) (old looked new : RepoEnd) (taken : Taken) (site : looked.site ≡ old.site) (pushed : sent looked.uplink ≡ sent old.uplink)
-    (inlets : looked.inlets.taken ≡ old.inlets.taken) where
+    (inlets : looked.inlets.taken ≡ old.inlets.taken) (others : KeepsOthers from old.inlets looked.inlets) where
   -- what is taken at an end that was looked at is taken at that end
   taken_after : (reply : Reply) → TakesFrame from looked new reply → TakesFrame from old new reply
-  taken_after reply takes = grind (arith, takes.sender, takes.frame)
+  taken_after reply takes = record {
+    sender = rw (sym site) takes.sender;
+    frame = takes.frame;
+    free = rw (sym site) takes.free;
+    taken = rw (sym inlets) takes.taken;
+    others = λ other apart. takes.others other apart ∙ others other apart;
+    site = rw (sym site) takes.site;
+    pushed = rw (sym site, sym pushed) takes.pushed;
+    reply_is = rw (sym site) takes.reply_is;
+  }
 
   pub applied_after : TakesFrame from looked new (reply_to number taken) → Applies from old new (reply_to number taken)
   applied_after takes = apply_taken from number old new taken (taken_after (reply_to number taken) takes)
@@ -54,22 +62,23 @@ passed site from item look.Next other = absurd (other refl)
 
 -- the end of a party that takes a frame that is not the next
 pub passes : (from number : ℕ) (old new : RepoEnd) (taken : Taken) (frame : Frame) → from < old.site.parties → IsPassedAs old.site from number taken frame
-    → new.inlets.taken ≡ with_item old.inlets.taken from frame → new.site ≡ old.site → sent new.uplink ≡ sent old.uplink
+    → new.inlets.taken ≡ with_item old.inlets.taken from frame → KeepsOthers from old.inlets new.inlets → new.site ≡ old.site → sent new.uplink ≡ sent old.uplink
     → TakesFrame from old new (reply_to number taken)
-passes from number old new taken frame party is takes site pushed =
+passes from number old new taken frame party is takes others site pushed =
     let none = passed old.site from frame.item (stands_to old.site from frame) is.other in
     record {
       sender = party;
       frame = frame;
       free = none.1;
       taken = takes;
+      others = others;
       site = site ∙ sym none.0;
       pushed = rw (site, pushed) (sym (append-nil (sent old.uplink)) ∙ ap (λ l. sent old.uplink ++ l) (more_submitted old.site.submissions [] old.site.submissions (append-nil old.site.submissions)));
       reply_is = λ i. reply_to (sym is.numbered i) (is.is_taken i);
     }
 
 module _ (message : Message) (old looked new : RepoEnd) (site : looked.site ≡ old.site) (pushed : sent looked.uplink ≡ sent old.uplink)
-    (inlets : looked.inlets.taken ≡ old.inlets.taken) where
+    (inlets : looked.inlets.taken ≡ old.inlets.taken) (in_hand : looked.inlets.in_hand ≡ old.inlets.in_hand) where
   -- what is submitted at an end whose uplink was looked at is submitted at that end
   pub submitted_after : (k : ℕ) → Submits message looked new (Submitted k) → Submits message old new (Submitted k)
   submitted_after k (puts, told, free) = grind (arith, nat_tests)

@@ -1,8 +1,8 @@
 -- The names of the library, of the definitions, and of the crates below that several files take, passed on from one place. Declares nothing.
 pub use Rattle.mv_ends.specs.Words.{Bounds, Entry, Frame, Global, HubState, IsFrameOf, IsLawful, IsLawfulAt, IsLawfulParty, IsLawfulRecord, IsPair, IsPrefix, IsSquare, IsWellFormed, LogEntry, Look, Memory, Message, Refusal, Refused, Reply, SiteState, State, Submitted, Vec, accepted, cell, close_fault, consumer_capacity, is_open, is_party, items_from, items_on, new_hub, new_site, opened_site, opening, option_map_or, known_free, known_items, producer_capacity, received, refusal_of, reply_to, route_refusal_of, routed_count, sent, site_of, submissions_of}
-pub use Rattle.mv_ends.specs.HubEnd.{HubSeat, IsUnchanged, Routes, SameHubEnd, hub_seat}
-pub use Rattle.mv_ends.specs.RepoEnd.{Applies, IsRepoUnchanged, SameRepoEnd, Submits, TakesFrame, repo_seat, stands_to}
-pub use Rattle.mv_ends.specs.Rings.{Inflow, IsFront, Outlet, is_full, ring_put, with_frame, with_item}
+pub use Rattle.mv_ends.specs.HubEnd.{HubSeat, IsOpened, IsUnchanged, Routes, SameHubEnd, hub_seat}
+pub use Rattle.mv_ends.specs.RepoEnd.{Applies, IsRepoOpened, IsRepoUnchanged, SameRepoEnd, Submits, TakesFrame, repo_seat, stands_to}
+pub use Rattle.mv_ends.specs.Rings.{Inflow, IsFront, KeepsOthers, Outlet, is_full, ring_put, with_frame, with_item}
 pub use Rattle.mv_ends.specs.Whole.{AreEnds, IsSeatOf, sites_of, state_of}
 pub use Rattle.mv_ends.specs.declared.hub_end.HubEnd.{HubEnd}
 pub use Rattle.mv_ends.specs.declared.repo_end.RepoEnd.{RepoEnd}

@@ -10,7 +10,7 @@ use Rattle.mv_repository.specs.declared.verdict.Local.TheVariants.{Known as Know
 use Rattle.mv_repository.specs.Verdict.{local_verdict}
 use Rattle.mv_party.specs.Calls.{ask_fault, submit_fault, apply_fault, taken_by, with_taken}
 use Rattle.mv_ends.specs.declared.repo_end.RepoEnd.{RepoEnd}
-use Rattle.mv_ends.specs.Rings.{Ring, ring_put, is_full, IsEmptyFrom, IsFront, with_item}
+use Rattle.mv_ends.specs.Rings.{Ring, ring_put, is_full, IsEmptyFrom, IsFront, KeepsOthers, with_item}
 
 -- What stays of a repository's end: its party, as it was when the system opened, and the rings that it has ends of.
 pub record RepoSeat : Type 0 where
@@ -26,17 +26,26 @@ repo_seat end = record { site = opened_site end.site; uplink = ring_put end.upli
 abbrev pub SameRepoEnd : RepoEnd → RepoEnd → Type 0
 SameRepoEnd old new = repo_seat new ≡ repo_seat old
 
--- nothing has changed: neither the party nor what was put or taken
+-- nothing has changed: neither the party nor what was put or taken, nor what is in hand
 pub record IsRepoUnchanged (old new : RepoEnd) : Type 0 where
   pub site : new.site ≡ old.site
   pub pushed : sent new.uplink ≡ sent old.uplink
   pub taken : new.inlets.taken ≡ old.inlets.taken
+  pub in_hand : new.inlets.in_hand ≡ old.inlets.in_hand
+
+-- nothing has changed, but that what is at the front of the link from a party may be in hand
+pub record IsRepoOpened (from : ℕ) (old new : RepoEnd) : Type 0 where
+  pub site : new.site ≡ old.site
+  pub pushed : sent new.uplink ≡ sent old.uplink
+  pub taken : new.inlets.taken ≡ old.inlets.taken
+  pub others : KeepsOthers from old.inlets new.inlets
 
 -- The party submitted just this message, and just this was put on its uplink.
 pub record Puts (message : Message) (old new : RepoEnd) : Type 0 where
   pub site : new.site ≡ with_submission old.site message
   pub pushed : sent new.uplink ≡ sent old.uplink ++ message ∷ []
   pub taken : new.inlets.taken ≡ old.inlets.taken
+  pub in_hand : new.inlets.in_hand ≡ old.inlets.in_hand
 
 -- what `submit` leaves, by its reply: a refusal is by whether the uplink was full, and where there is no fault for want of memory alone
 abbrev pub Submits : Message → RepoEnd → RepoEnd → Reply → Type 0
@@ -66,6 +75,7 @@ pub record TakesFrame (from : ℕ) (old new : RepoEnd) (reply : Reply) : Type 0 
   pub frame : Frame
   pub free : apply_fault false old.site from frame.item (stands_to old.site from frame) ≡ None
   pub taken : new.inlets.taken ≡ with_item old.inlets.taken from frame
+  pub others : KeepsOthers from old.inlets new.inlets
   pub site : new.site ≡ with_taken old.site from frame.item (stands_to old.site from frame)
   pub pushed : sent new.uplink ≡ sent old.uplink ++ drop (length old.site.submissions) new.site.submissions
   pub reply_is : reply ≡ reply_to frame.number (taken_by old.site from frame.item (stands_to old.site from frame))
@@ -76,7 +86,8 @@ pub record TakesFrame (from : ℕ) (old new : RepoEnd) (reply : Reply) : Type 0 
 abbrev pub Applies : ℕ → RepoEnd → RepoEnd → Reply → Type 0
 Applies from old new (Refused Party) = IsRepoUnchanged old new × (from < old.site.parties → ⊥)
 Applies from old new (Refused WireEmpty) = IsRepoUnchanged old new × (from < old.site.parties) × IsEmptyFrom new.inlets from
+Applies from old new (Refused Memory) = IsRepoOpened from old new × ((frame : Frame) × IsFront new.inlets from frame
+    × (apply_fault (is_full new.uplink) old.site from frame.item (stands_to old.site from frame) ≡ None) × (stands_to old.site from frame ≡ Next))
 Applies from old new (Refused refusal) = IsRepoUnchanged old new × ((frame : Frame) × IsFront new.inlets from frame
-    × IsRefusedBy refusal_of (apply_fault (is_full new.uplink) old.site from frame.item (stands_to old.site from frame)) refusal
-    × (refusal ≡ Memory → stands_to old.site from frame ≡ Next) × ((refusal ≡ Memory → ⊥) → new.inlets.in_hand ≡ old.inlets.in_hand))
+    × IsRefusedBy refusal_of (apply_fault (is_full new.uplink) old.site from frame.item (stands_to old.site from frame)) refusal)
 Applies from old new reply = TakesFrame from old new reply

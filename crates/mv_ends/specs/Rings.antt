@@ -1,5 +1,5 @@
 -- Rings, by what their two ends show of them.
-use Rattle.std.specs.Prelude.{◌≡◌, ◌==◌, ◌<◌, ℕ, List, [], ◌∷◌, ◌++◌, Bool, length, slice_index_or, slice_set}
+use Rattle.std.specs.Prelude.{◌≡◌, ◌==◌, ◌<◌, ℕ, List, [], ◌∷◌, ◌++◌, Bool, false, length, slice_index_or, slice_set}
 use Rattle.mv_ends.specs.Words.{AnyItems, Frame, Global, IsPrefix, Ptr, cell, known_free, producer_capacity, put}
 use Rattle.rtrb.specs.declared.producer.Producer.{Producer}
 
@@ -46,6 +46,10 @@ module _ {T : Type 0} where
   -- nothing is known to wait on the ring from a party
   abbrev pub IsEmptyFrom : Inflow T → ℕ → Type 0
   IsEmptyFrom inlets from = (absent : List T) → length (slice_index_or inlets.known from absent) ≡ 0
+
+  -- what is in hand is what was, but for the ring from one party
+  abbrev pub KeepsOthers : ℕ → Inflow T → Inflow T → Type 0
+  KeepsOthers from old new = (other : ℕ) → (other ≡ from → ⊥) → slice_index_or new.in_hand other false ≡ slice_index_or old.in_hand other false
 
   -- this is at the front of the ring from a party
   abbrev pub IsFront : Inflow T → ℕ → T → Type 0

@@ -248,6 +248,7 @@ impl HubEnd {
         ensures same { SameHubEnd self.old self.new }
         ensures hub { self.new.hub ≡ self.old.hub }
         ensures taken { self.new.uplinks.taken ≡ self.old.uplinks.taken }
+        ensures in_hand { self.new.uplinks.in_hand ≡ self.old.uplinks.in_hand }
         ensures put { self.new.wires.put ≡ with_frame self.old.wires.put from to frame }
     {
         self.wires.put(from, to, frame);

@@ -6,7 +6,7 @@
 
 ghost use Rattle.std.specs.Prelude.{◌≡◌, ◌<◌, ◌++◌, ◌∷◌, [], true, false, is_some, length, slice_index_or, IsTrue, IsFalse};
 ghost use Rattle.mv_ends.specs.Words.{Frame as AFrame, IsPrefix, sent};
-ghost use Rattle.mv_ends.specs.Rings.{Inflow, ring_put, with_item, IsEmptyFrom, IsFront};
+ghost use Rattle.mv_ends.specs.Rings.{Inflow, ring_put, with_item, IsEmptyFrom, IsFront, KeepsOthers};
 ghost use Rattle.mv_ends.specs.inside.Fronts.{IsFrontOf};
 ghost use Rattle.mv_ends.specs.inside.Rings.{inflow_of, HasFront, ring_taken, taken_by, waits_at};
 
@@ -66,6 +66,7 @@ impl<T: Drop> Inlet<T> {
         requires { ring_put producer.old ≡ ring_taken self.old }
         ensures ring { ring_taken self.new ≡ ring_taken self.old }
         ensures taken { taken_by self.new ≡ taken_by self.old }
+        ensures hand { self.new.hand ≡ self.old.hand }
         ensures producer { ring_put producer.new ≡ ring_put producer.old }
         ensures put { sent producer.new ≡ sent producer.old }
         ensures front { IsPrefix (taken_by self.old) (sent producer.old) }
@@ -97,7 +98,7 @@ impl<T: Drop> Inlets<T> {
     }
 
     /// Opens the parcel at the front of the ring from a party, unless one is open. What was in it is in hand then.
-    #[tactic(auto, using(crate::proofs::RingLemmas::has_place, crate::proofs::RingLemmas::shows_same, crate::proofs::RingLemmas::shown_at, crate::proofs::RingLemmas::shown_after))]
+    #[tactic(auto, using(crate::proofs::RingLemmas::has_place, crate::proofs::RingLemmas::shows_same, crate::proofs::RingLemmas::shown_at, crate::proofs::RingLemmas::shown_after, crate::proofs::RingLemmas::shown_other))]
     pub(crate) fn open(&mut self, from: Party)
         requires from { from < length self.old.taken }
         requires some { HasFront self.old from }
@@ -105,6 +106,7 @@ impl<T: Drop> Inlets<T> {
         ensures nothing { self.new.taken ≡ self.old.taken }
         ensures known { self.new.known ≡ self.old.known }
         ensures in_hand { slice_index_or self.new.in_hand from false ≡ true }
+        ensures others { KeepsOthers from self.old self.new }
     {
         self.ends[from as usize].open();
     }
@@ -122,12 +124,13 @@ impl<T: Drop> Inlets<T> {
     }
 
     /// Takes what is in hand of a party.
-    #[tactic(auto, using(crate::proofs::RingLemmas::has_place, crate::proofs::RingLemmas::shows_same, crate::proofs::RingLemmas::shows_more, crate::proofs::RingLemmas::shown_at))]
+    #[tactic(auto, using(crate::proofs::RingLemmas::has_place, crate::proofs::RingLemmas::shows_same, crate::proofs::RingLemmas::shows_more, crate::proofs::RingLemmas::shown_at, crate::proofs::RingLemmas::shown_other))]
     pub(crate) fn take(&mut self, from: Party) -> T
         requires from { from < length self.old.taken }
         requires some { slice_index_or self.old.in_hand from false ≡ true }
         ensures same { self.new.rings ≡ self.old.rings }
         ensures takes { self.new.taken ≡ with_item self.old.taken from result }
+        ensures others { KeepsOthers from self.old self.new }
         ensures first { IsFront self.old from result }
         ensures front { (front : T) → IsFront self.old from front → result ≡ front }
     {
@@ -141,6 +144,7 @@ impl<T: Drop> Inlets<T> {
         requires pair { ring_put producer.old ≡ slice_index_or self.old.rings from (ring_put producer.old) }
         ensures same { self.new.rings ≡ self.old.rings }
         ensures nothing { self.new.taken ≡ self.old.taken }
+        ensures in_hand { self.new.in_hand ≡ self.old.in_hand }
         ensures producer { ring_put producer.new ≡ ring_put producer.old }
         ensures put { sent producer.new ≡ sent producer.old }
         ensures front { IsPrefix (slice_index_or self.old.taken from []) (sent producer.old) }

@@ -68,6 +68,7 @@ impl Wires {
         ensures nothing { self.new.put ≡ self.old.put }
         ensures inlets { inlets.new.rings ≡ inlets.old.rings }
         ensures taken { inlets.new.taken ≡ inlets.old.taken }
+        ensures in_hand { inlets.new.in_hand ≡ inlets.old.in_hand }
         ensures front { (from : ℕ) → from < length inlets.old.taken
             → IsPrefix (slice_index_or inlets.old.taken from []) (cell self.old.put to from []) }
     {

@@ -1,5 +1,5 @@
 -- The hub routed what is taken from the uplink.
-use Rattle.mv_ends.proofs.Words.{◌≡◌, ◌+◌, length, rules, routed_count, with_item}
+use Rattle.mv_ends.proofs.Words.{ap, false, get_or, ◌∙◌, ◌≡◌, ◌+◌, length, rules, routed_count, with_item}
 use Rattle.mv_machine.specs.declared.reply.Reply.TheVariants.{Routed}
 use Rattle.mv_ends.proofs.EndLemmas.{of_links_entered, took_routed, within_routed, route_refused}
 use Rattle.mv_ends.proofs.hub_end.HubEnd.route.Goals as goal
@@ -28,6 +28,7 @@ returns-in-Ok-clause-reply c =
       message = message;
       taken = rw (c.take-message.ensures.takes, c.«open».ensures.nothing, c.is_empty.ensures.nothing, c.take-message.ensures.front message c.in_hand.ensures);
       put = search rules;
+      others = λ other apart. c.take-message.ensures.others other apart ∙ c.«open».ensures.others other apart ∙ ap (λ l. get_or l other false) c.is_empty.ensures.in_hand;
       hub = c.in-Ok.ensures.ok;
       free = search rules;
       reply_is = λ i. Routed (c.in-Ok.ensures.number i) (c.in-Ok.ensures.reach i);
@@ -39,4 +40,4 @@ invariant_of-self-in-Ok-clause-square c = rw c.in-Ok.ensures.ok c.args.self.now.
 pub returns-in-Err-clause-reply : goal.returns-in-Err-clause-reply
 returns-in-Err-clause-reply c =
     rw c.from.ensures (route_refused c.args.self.now _ c.args.from c.message.result.now c.in-Err.fault (search rules) (search rules) (search rules)
-    c.message.ensures c.in-Err.ensures.err (search rules))
+    c.message.ensures c.in-Err.ensures.err)

@@ -36,6 +36,7 @@ returns-clause-ok c =
         frame = frame;
         free = rw is.stands_so (taken_freely _ site c.args.from frame.item Next is.free);
         taken = rw (c.take-frame.ensures.takes, c.take-frame.ensures.front frame c.in_hand.ensures) refl;
+        others = c.take-frame.ensures.others;
         site = rw is.stands_so c.in_ok-taken.ensures.ok;
         pushed = c.in_ok-taken.ensures.put ∙ ap (λ l. sent old.uplink ++ l) (more_submitted site.submissions answer _ all);
         reply_is = rw is.stands_so (ap (reply_to frame.number) c.in_ok-taken.ensures.value);

@@ -15,4 +15,4 @@ pub returns-clause-reply : goal.returns-clause-reply
 returns-clause-reply c =
     let frame = c.take-passed.result in
     rw c.of_taken.ensures (passes c.args.from c.args.number c.args.self.now _ c.args.taken frame c.requires.from (c.requires.front frame c.take-passed.ensures.first)
-    c.take-passed.ensures.takes (search rules) (search rules))
+    c.take-passed.ensures.takes c.take-passed.ensures.others (search rules) (search rules))

@@ -22,6 +22,7 @@ loop-from-preserved c =
       put = cell_same rows put was.put c.args.to at c.requires.to wide row old here there (with_item row at new) new refl sent put was.put look.put;
       inlets = look.same ∙ was.inlets;
       taken = look.nothing ∙ was.taken;
+      in_hand = look.in_hand ∙ was.in_hand;
       front = λ from below. elim (cases_lt from at) [
         | inl before ↦ was.front from before
         | inr after ↦

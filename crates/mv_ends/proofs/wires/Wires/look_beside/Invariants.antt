@@ -8,5 +8,6 @@ invariant-loop-from l = record {
   put : each_row sent l.self-inside.rows.items ≡ l.fn.self.put;
   inlets : l.inlets.rings ≡ l.fn.inlets.rings;
   taken : l.inlets.taken ≡ l.fn.inlets.taken;
+  in_hand : l.inlets.in_hand ≡ l.fn.inlets.in_hand;
   front : (from : ℕ) → from < l.from → IsPrefix (get_or l.fn.inlets.taken from []) (cell l.fn.self.put l.to from []);
 }

@@ -6,4 +6,5 @@ pub mod SiteEndLemmas
 pub mod OpeningLemmas
 pub mod LookLemmas
 pub mod OutcomeLemmas
+pub mod ReportLemmas
 pub mod CallerLemmas

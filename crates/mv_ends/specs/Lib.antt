@@ -5,4 +5,5 @@ pub mod HubEnd
 pub mod RepoEnd
 pub mod Whole
 pub mod Laws
+pub mod Report
 pub mod inside

@@ -38,6 +38,7 @@ mod opening;
 mod outcome;
 mod parcel;
 mod repo_end;
+mod reporting;
 mod wires;
 
 pub use hub_end::HubEnd;
@@ -47,4 +48,5 @@ pub use opening::open;
 pub use outcome::{Outcome, gather};
 pub use parcel::Parcel;
 pub use repo_end::{RepoEnd, Unsubmitted};
+pub use reporting::report;
 pub use wires::Wires;

@@ -1,1 +1,4 @@
+pub mod Words
 pub mod CanonLemmas
+pub mod CheckLemmas
+pub mod StrictLemmas

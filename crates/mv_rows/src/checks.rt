@@ -1,6 +1,6 @@
 //! Lines that are only checked: messages that are refused, and lines of a run that were not taken.
 
-use mv_checks::{Untaken, check, serve_strict};
+use mv_lines::{Untaken, check, serve_strict};
 use std::alloc::Global;
 
 /// A query, an empty line, no object, a query with a check digit too high, and one with a blank in its serial number.
@@ -32,7 +32,7 @@ const REPLIES: &str = r#"{"refused":"C1"}
 {"refused":"S5"}
 "#;
 
-/// The caller that the head of mv_checks shows.
+/// The caller that the head of mv_lines shows.
 fn are_messages(alloc: Global, lines: &str) -> bool {
     let mut reader = lines.as_bytes();
     let mut writer = Vec::new(alloc);

@@ -1,6 +1,6 @@
 //! The events that `trail` writes, by lines whose events a person knew.
 
-use mv_trail::trail;
+use mv_show::trail;
 use std::alloc::Global;
 
 /// An opening, an empty line, no object, two closings of one link, and a pack that the party's own repository does not hold.

@@ -2,3 +2,8 @@ pub mod Words
 pub mod OrderLemmas
 pub mod GatheringLemmas
 pub mod ShowingLemmas
+pub mod StepLemmas
+pub mod ToldLemmas
+pub mod TrailLemmas
+pub mod EventLemmas
+pub mod EventOrderLemmas

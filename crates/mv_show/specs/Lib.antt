@@ -2,3 +2,8 @@ pub mod Words
 pub mod Subjects
 pub mod Shown
 pub mod Showing
+pub mod Events
+pub mod EventValues
+pub mod Trail
+pub mod TrailLaws
+pub mod inside

@@ -10,9 +10,9 @@ use Rattle.mv_words.specs.declared.task.Task.TheVariants as tasks
 use Rattle.mv_tool.specs.declared.status.Status.{Status}
 use Rattle.mv_tool.specs.declared.status.Status.TheVariants.{Done, Failed, Refused}
 use Rattle.mv_tool.specs.Commands.{Ran, RanAs, RanLines}
-use Rattle.mv_checks.specs.declared.strict.Untaken.{Untaken}
+use Rattle.mv_lines.specs.declared.strict.Untaken.{Untaken}
 use Rattle.mv_engine.specs.Replies.{ReplyRule}
-use Rattle.mv_checks.specs.Strict.{IsStrictReply}
+use Rattle.mv_lines.specs.Strict.{IsStrictReply}
 use Rattle.mv_engine.specs.Served.{Ended, EndedAt, Served}
 
 -- the kind of an error of mistaken words is that of a mistake

@@ -8,7 +8,7 @@ use Rattle.mv_workers.specs.Plans.{IsSound, KeepsPlan, IsComplete, Faults}
 use Rattle.mv_tool.specs.declared.working.Output.{Output}
 use Rattle.mv_tool.proofs.Words.{Appends, Keeps, Memory, ServeFault, Start, output_of, report_of}
 use Rattle.mv_plan.specs.Drafts.{Parts, CanRun}
-use Rattle.mv_report.specs.Report.{report_text}
+use Rattle.mv_ends.specs.Report.{report_text}
 use Rattle.mv_plan.specs.Planning.{Planned}
 use Rattle.mv_plan.specs.Reading.{IsRead}
 use Rattle.mv_engine.specs.Output.{WrotePart}

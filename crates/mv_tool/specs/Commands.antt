@@ -1,14 +1,14 @@
 -- What comes of the words that the command line takes.
 use Rattle.std.specs.Prelude.{◌≡◌, ◌⊎◌, ℕ, List, Bool, true, false, IsTrue, Option, None, IfSome, is_none}
 use Rattle.mv_tool.specs.Names.{Appends, Done, Failed, Keeps, Refused, ServeFault, Status, WrotePart, first_unknown, lines_of}
-use Rattle.mv_checks.specs.Checks.{IsChecked}
-use Rattle.mv_checks.specs.Strict.{IsStrictReply}
+use Rattle.mv_lines.specs.Checks.{IsChecked}
+use Rattle.mv_lines.specs.Strict.{IsStrictReply}
 use Rattle.mv_lines.specs.Canon.{IsCanon}
 use Rattle.mv_engine.specs.Replies.{ReplyRule}
 use Rattle.mv_engine.specs.Served.{EndedBy, Served}
 use Rattle.mv_lines.specs.Sessions.{IsReply}
 use Rattle.mv_show.specs.Showing.{Shows, Unshown}
-use Rattle.mv_trail.specs.Trail.{IsEvent}
+use Rattle.mv_show.specs.Trail.{IsEvent}
 use Rattle.mv_words.specs.declared.task.Task.{Task}
 use Rattle.mv_words.specs.declared.task.Task.TheVariants as tasks
 use Rattle.mv_tool.specs.Telling.{untaken_line}

@@ -11,9 +11,9 @@ pub use Rattle.mv_lines.specs.Canon
 pub use Rattle.mv_engine.specs.Served
 pub use Rattle.mv_engine.specs.Output
 pub use Rattle.mv_explain.specs.Explained
-pub use Rattle.mv_checks.specs.Checks
-pub use Rattle.mv_checks.specs.Strict
-pub use Rattle.mv_trail.specs.Trail
+pub use Rattle.mv_lines.specs.Checks
+pub use Rattle.mv_lines.specs.Strict
+pub use Rattle.mv_show.specs.Trail
 pub use Rattle.mv_show.specs.Showing
 pub use Rattle.mv_show.specs.Shown
 pub use Rattle.mv_plan.specs.Drafts
@@ -21,5 +21,5 @@ pub use Rattle.mv_plan.specs.Planning
 pub use Rattle.mv_plan.specs.Reading
 pub use Rattle.mv_workers.specs.Work
 pub use Rattle.mv_workers.specs.Plans
-pub use Rattle.mv_report.specs.Report
+pub use Rattle.mv_ends.specs.Report
 pub mod inside

@@ -3,9 +3,9 @@
 //! The program is its user: `main` of `mvhub` gives the words and the three standard streams to [`command`], and ends with the
 //! status that it answers. The contract: `command` runs the task that its words name; `work`
 //! writes the first refusal of the lines, or the report of what became of the plan that they are. What words ask for
-//! is `mv_words`, how lines are read and answered `mv_lines`, what they did `mv_trail`, what stands behind them `mv_show`, which are not
-//! taken `mv_checks`, what they plan `mv_plan`, how a plan is run `mv_workers`, its report `mv_report`, and what codes mean `mv_explain`. A
-//! caller finds all calls of the program here: [`serve`], [`trail`], [`show`], [`canon`], [`check`], [`serve_strict`], [`explain`],
+//! is `mv_words`, how lines are read, answered and checked `mv_lines`, what they did and what stands behind them `mv_show`, what they
+//! plan `mv_plan`, how a plan is run `mv_workers`, its report `mv_ends`, and what codes mean `mv_explain`. A caller finds all calls of
+//! the program here: [`serve`], [`trail`], [`show`], [`canon`], [`check`], [`serve_strict`], [`explain`],
 //! [`work`], [`report`] and [`command`].
 //!
 //! It can be used alone, with the crates that its line of crates.txt names.
@@ -36,12 +36,10 @@ mod telling;
 mod working;
 
 pub use command_line::command;
-pub use mv_checks::{StrictRun, Untaken, check, serve_strict};
+pub use mv_ends::report;
 pub use mv_explain::{ExplainFault, explain};
-pub use mv_lines::{ServeFault, canon, serve};
-pub use mv_report::report;
-pub use mv_show::show;
-pub use mv_trail::trail;
+pub use mv_lines::{ServeFault, StrictRun, Untaken, canon, check, serve, serve_strict};
+pub use mv_show::{show, trail};
 pub use mv_workers::{Gate, NoGate};
 pub use status::Status;
 pub use working::work;

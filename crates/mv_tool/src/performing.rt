@@ -6,10 +6,8 @@ ghost use Rattle.mv_tool.specs.Commands.{Ran};
 
 use crate::telling::{explain_codes, status_of, status_of_answer, status_of_strict};
 use crate::{Status, work};
-use mv_checks::{check, serve_strict};
-use mv_lines::{canon, serve_last};
-use mv_show::show;
-use mv_trail::trail;
+use mv_lines::{canon, check, serve_last, serve_strict};
+use mv_show::{show, trail};
 use mv_words::Task;
 use mv_workers::NoGate;
 use std::alloc::Global;

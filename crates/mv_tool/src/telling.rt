@@ -7,9 +7,8 @@ ghost use Rattle.mv_tool.specs.Telling.{untaken_line};
 ghost use Rattle.mv_tool.specs.inside.Telling.{ToldCodes, ToldStrict, no_code_line};
 
 use crate::Status;
-use mv_checks::{StrictRun, Untaken};
 use mv_explain::{ExplainFault, explain};
-use mv_lines::{ServeFault, put_out};
+use mv_lines::{ServeFault, StrictRun, Untaken, put_out};
 use std::alloc::{AllocError, Global};
 use std::io::Write;
 

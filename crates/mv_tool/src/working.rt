@@ -8,10 +8,9 @@ ghost use Rattle.mv_plan.specs.Drafts.{Parts};
 ghost use Rattle.mv_tool.specs.Working.{end_line, parts_of, IsOutput, Worked, Failed};
 ghost use Rattle.mv_tool.specs.inside.Telling.{report_of, output_of};
 
-use mv_ends::Outcome;
+use mv_ends::{Outcome, report};
 use mv_lines::{OpenFault, ServeFault, put_out, refusal_text};
 use mv_plan::{Draft, Planned, read_plan};
-use mv_report::report;
 use mv_workers::{Gate, Plan, Work, WorkFault, run_workers};
 use std::alloc::Global;
 use std::io::{Read, Write};

@@ -2,10 +2,9 @@
 
 ghost use Rattle.std.specs.Prelude.{◌≡◌, IfOk, if◌then◌else◌};
 ghost use Rattle.mv_lines.specs.Canon.{canon_of};
-ghost use Rattle.mv_checks.specs.Checks.{are_messages, refusals_of};
+ghost use Rattle.mv_lines.specs.Checks.{are_messages, refusals_of};
 
-use mv_checks::check;
-use mv_lines::{ServeFault, canon};
+use mv_lines::{ServeFault, canon, check};
 use std::alloc::Global;
 
 /// The canonical texts of the messages that lines are, where each line is one; else the refusals of those that are none, each with the

@@ -1,10 +1,9 @@
 //! The reports of two runs are compared.
 
 ghost use Rattle.std.specs.Prelude.{◌≡◌, ◌↔◌, IfOk, IsTrue};
-ghost use Rattle.mv_report.specs.Report.{report_text};
+ghost use Rattle.mv_ends.specs.Report.{report_text};
 
-use mv_ends::Outcome;
-use mv_report::report;
+use mv_ends::{Outcome, report};
 use std::alloc::{AllocError, Global};
 
 /// Whether two runs came to the same report. An error where memory is refused.

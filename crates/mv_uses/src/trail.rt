@@ -5,12 +5,12 @@ ghost use Rattle.std.specs.List.{enumerate_from, filter_map};
 ghost use Rattle.mv_engine.specs.Lines.{lines_from, pieces};
 ghost use Rattle.mv_engine.specs.Replies.{text_lines};
 ghost use Rattle.mv_lines.specs.Sessions.{Open};
-ghost use Rattle.mv_trail.specs.Events.{Event};
-ghost use Rattle.mv_trail.specs.Laws.{AreTold, entry_told};
-ghost use Rattle.mv_trail.specs.Trail.{event_text};
+ghost use Rattle.mv_show.specs.Events.{Event};
+ghost use Rattle.mv_show.specs.TrailLaws.{AreTold, entry_told};
+ghost use Rattle.mv_show.specs.Trail.{event_text};
 
 use mv_lines::ServeFault;
-use mv_trail::{laws, trail};
+use mv_show::{laws, trail};
 use std::alloc::Global;
 
 /// The trail of a run: the texts of the events of its lines, in order. Where a system is open at the end, the entries that these events

@@ -4,12 +4,11 @@ ghost use Rattle.mv_ends.specs.Laws.{AreSameRepos};
 
 use crate::ends::Ends;
 use crate::hands::{Apart, Hand, Here};
-use mv_ends::{HubEnd, Outcome, RepoEnd, ends_stay_ends, gather, open, repo_ends_stay};
+use mv_ends::{HubEnd, Outcome, RepoEnd, ends_stay_ends, gather, open, repo_ends_stay, report};
 use mv_hub::{Entry, Parties};
 use mv_machine::{Limits, Refusal, Reply, Step};
 use mv_message::{Message, Party, Shared};
 use mv_pack::{Gtin, Market, PackKey, Serial};
-use mv_report::report;
 use mv_repository::{Effect, Joint};
 use std::alloc::Global;
 

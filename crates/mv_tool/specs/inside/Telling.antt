@@ -1,7 +1,7 @@
 -- What standard error is told of a strict run and of codes; and what `work` writes.
 use Rattle.std.specs.Prelude.{◌≡◌, ℕ, List, [], ◌∷◌, ◌++◌, codes, Option, Some, None, OnOk, MatchResult, Result, Bool, true, false, Ok, Err}
 use Rattle.mv_tool.specs.Names.{Appends, Done, Failed, Keeps, Refused, ServeFault, Status, WrotePart, first_unknown, lines_of, Memory, Start, State, report_text}
-use Rattle.mv_checks.specs.declared.strict.Untaken.{Untaken}
+use Rattle.mv_lines.specs.declared.strict.Untaken.{Untaken}
 use Rattle.mv_tool.specs.Telling.{untaken_line}
 use Rattle.mv_workers.specs.declared.plan.WorkFault.{WorkFault}
 use Rattle.mv_tool.specs.Working.{end_line}

@@ -1,5 +1,5 @@
 use Rattle.mv_tool.proofs.Words.{IsCanon, IsReply, None, arith, on_ok_weaker}
-use Rattle.mv_trail.specs.Trail.{IsEvent}
+use Rattle.mv_show.specs.Trail.{IsEvent}
 use Rattle.mv_tool.proofs.CommandLemmas.{answered_quietly, canon_left, ran_answered, ran_explain, ran_lines, ran_strict, told_nothing}
 use Rattle.mv_tool.proofs.performing.perform.Goals as goal
 

@@ -2,8 +2,8 @@ use Rattle.std.proofs.Common.{◌≡◌, ◌∙◌, ℕ, List, None, Some, IfSom
 use Rattle.std.specs.List.{enumerate_from, filter_map}
 use Rattle.mv_engine.specs.Lines.{Line, lines_from, pieces}
 use Rattle.mv_lines.specs.Sessions.{Open}
-use Rattle.mv_trail.specs.Events.{Event}
-use Rattle.mv_trail.specs.Laws.{AreTold, RecordIsTold, entry_told}
+use Rattle.mv_show.specs.Events.{Event}
+use Rattle.mv_show.specs.TrailLaws.{AreTold, RecordIsTold, entry_told}
 use Rattle.mv_uses.proofs.trail.trail_of.Goals as goal
 
 -- where a system is open behind the events, they tell its record

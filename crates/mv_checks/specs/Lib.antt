@@ -1,7 +1,0 @@
-pub mod Checks
-pub mod Strict
-pub use Rattle.mv_engine.specs.Lines
-pub use Rattle.mv_engine.specs.Replies
-pub use Rattle.mv_format.specs.ReplyLines
-pub use Rattle.mv_engine.specs.Served
-pub use Rattle.mv_lines.specs.Sessions

@@ -1,6 +1,0 @@
-pub mod Words
-pub mod Events
-pub mod EventValues
-pub mod Trail
-pub mod Laws
-pub mod inside

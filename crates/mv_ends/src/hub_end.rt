@@ -112,7 +112,6 @@ impl HubEnd {
     /// Answers `Routed`, or the first of these refusals that holds: S1, there is no such party; S5, no message of the party
     /// is there to be routed, or as many of its messages were routed as it may submit; S6, a link has no room; S14, memory was
     /// refused. S5 may be told though a message was just put on the uplink.
-    #[tactic(auto, using(crate::proofs::EndLemmas::room_left, crate::proofs::EndLemmas::lawful_routed, crate::proofs::EndLemmas::route_refused, crate::proofs::EndLemmas::route_wanting))]
     pub fn route(&mut self, from: Party) -> Reply
         ensures same { SameHubEnd self.old self.new }
         ensures reply { Routes from self.old self.new result }

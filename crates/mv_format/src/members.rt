@@ -160,7 +160,7 @@ fn write_change(writer: &mut Writer, change: &Option<Change>, user: &str) -> Res
     writer.key("at")?;
     writer.u64(change.at.seconds())?;
     writer.key("by")?;
-    writer.u64(u64::from(change.by))?;
+    writer.u64(change.by as u64)?;
     writer.key("user")?;
     writer.string(user)?;
     writer.end_object()

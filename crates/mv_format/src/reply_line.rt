@@ -77,7 +77,7 @@ impl ToJson for Reply {
             Reply::Submitted { k } => write_numbered(writer, "submitted", *k),
             Reply::Routed { k, reach } => write_object(
                 writer,
-                &[Parties("reach", reach), Number("routed", u64::from(*k))],
+                &[Parties("reach", reach), Number("routed", *k as u64)],
             ),
             Reply::Relayed { number } => write_numbered(writer, "relayed", *number),
             Reply::Known(verdict) => write_verdict(writer, Joint::Decided(*verdict)),
@@ -91,8 +91,8 @@ impl ToJson for Reply {
             Reply::Gap { number, expected } => write_object(
                 writer,
                 &[
-                    Number("expected", u64::from(*expected)),
-                    Number("gap", u64::from(*number)),
+                    Number("expected", *expected as u64),
+                    Number("gap", *number as u64),
                 ],
             ),
             Reply::Repeated { number } => write_numbered(writer, "repeated", *number),
@@ -101,7 +101,7 @@ impl ToJson for Reply {
             Reply::Joint(verdict) => write_verdict(writer, *verdict),
             Reply::Refused(Refusal::Busy(party)) => write_object(
                 writer,
-                &[Number("party", u64::from(*party)), Text("refused", "S6")],
+                &[Number("party", *party as u64), Text("refused", "S6")],
             ),
             Reply::Refused(refusal) => write_refused(writer, refusal.code(), None),
         }
@@ -180,7 +180,7 @@ fn write_numbered(writer: &mut Writer, key: &'static str, number: u32) -> Result
     ensures before { writer.new.before ≡ writer.old.before }
     ensures added { Adds result writer.old writer.new (numbered key.now number) }
 {
-    write_object(writer, &[Number(key, u64::from(number))])
+    write_object(writer, &[Number(key, number as u64)])
 }
 
 /// Writes the reply that a frame was applied, and the number of the answer that it called for.
@@ -200,7 +200,7 @@ fn write_applied(
     };
     let members = [
         NumberOrNone("answer", answer.map(u64::from)),
-        Number("applied", u64::from(number)),
+        Number("applied", number as u64),
         Text("effect", effect.code()),
         NumberOrNone("new", new),
         NumberOrNone("old", old),
@@ -217,7 +217,7 @@ fn write_verdict(writer: &mut Writer, verdict: Joint) -> Result<(), AllocError>
         Joint::NotAsked => write_object(writer, &[Text("verdict", "not asked")]),
         Joint::Pending { left } => write_object(
             writer,
-            &[Number("left", u64::from(left)), Text("verdict", "pending")],
+            &[Number("left", left as u64), Text("verdict", "pending")],
         ),
         Joint::Decided(Verdict::Authentic) => {
             write_object(writer, &[Text("verdict", "authentic")])
@@ -282,7 +282,7 @@ fn place_of(fault: PackFault) -> Option<u64>
     ensures { result ≡ place_of fault }
 {
     match fault {
-        PackFault::Character(place) => Some(u64::from(place)),
+        PackFault::Character(place) => Some(place as u64),
         _ => None,
     }
 }

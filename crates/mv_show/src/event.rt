@@ -80,12 +80,12 @@ impl<'a> Teller<'a> {
         let limits = self.world.limits();
         let members = [
             Member::Text("event", "opened"),
-            Member::Number("line", u64::from(self.line)),
+            Member::Number("line", self.line as u64),
             Member::Markets("parties", self.world.hub().parties().lists()),
-            Member::Number("submissions", u64::from(limits.submissions())),
-            Member::Number("uplink", u64::from(limits.uplink())),
-            Member::Number("window", u64::from(limits.window())),
-            Member::Number("wire", u64::from(limits.wire())),
+            Member::Number("submissions", limits.submissions() as u64),
+            Member::Number("uplink", limits.uplink() as u64),
+            Member::Number("window", limits.window() as u64),
+            Member::Number("wire", limits.wire() as u64),
         ];
         self.say(&members, out)
     }
@@ -116,9 +116,9 @@ impl<'a> Teller<'a> {
         };
         let members = [
             Member::Text("event", "submitted"),
-            Member::Number("from", u64::from(from)),
-            Member::Number("k", u64::from(*k)),
-            Member::Number("line", u64::from(self.line)),
+            Member::Number("from", from as u64),
+            Member::Number("k", *k as u64),
+            Member::Number("line", self.line as u64),
             Member::Message("message", message),
         ];
         self.say(&members, out)
@@ -134,9 +134,9 @@ impl<'a> Teller<'a> {
                 &[
                     Member::Text("event", "asked"),
                     Member::Text("gtin", key.gtin.as_str()),
-                    Member::Number("line", u64::from(self.line)),
-                    Member::Number("party", u64::from(party)),
-                    Member::Number("q", u64::from(*q)),
+                    Member::Number("line", self.line as u64),
+                    Member::Number("party", party as u64),
+                    Member::Number("q", *q as u64),
                     Member::Text("serial", key.serial.as_str()),
                 ],
                 out,
@@ -146,8 +146,8 @@ impl<'a> Teller<'a> {
                     Member::Text("event", "verified"),
                     Member::FlagOrNone("falsification", suspicion(*verdict)),
                     Member::Text("gtin", key.gtin.as_str()),
-                    Member::Number("line", u64::from(self.line)),
-                    Member::Number("party", u64::from(party)),
+                    Member::Number("line", self.line as u64),
+                    Member::Number("party", party as u64),
                     Member::Text("serial", key.serial.as_str()),
                     Member::Text("verdict", verdict_name(*verdict)),
                 ],
@@ -171,9 +171,9 @@ impl<'a> Teller<'a> {
         };
         let members = [
             Member::Text("event", "routed"),
-            Member::Number("from", u64::from(*from)),
-            Member::Number("k", u64::from(*k)),
-            Member::Number("line", u64::from(self.line)),
+            Member::Number("from", *from as u64),
+            Member::Number("k", *k as u64),
+            Member::Number("line", self.line as u64),
             Member::Message("message", message.get()),
             Member::Parties("reach", reach),
             Member::Number("stamp", record.len() as u64),
@@ -217,13 +217,13 @@ impl<'a> Teller<'a> {
                 &[
                     Member::Text("effect", frame.effect.code()),
                     Member::Text("event", "applied"),
-                    Member::Number("from", u64::from(frame.from)),
-                    Member::Number("k", u64::from(*k)),
-                    Member::Number("line", u64::from(self.line)),
-                    Member::Number("number", u64::from(frame.number)),
+                    Member::Number("from", frame.from as u64),
+                    Member::Number("k", *k as u64),
+                    Member::Number("line", self.line as u64),
+                    Member::Number("number", frame.number as u64),
                     Member::Flag("query", *query),
                     Member::Parties("reach", reach),
-                    Member::Number("to", u64::from(frame.to)),
+                    Member::Number("to", frame.to as u64),
                 ],
                 out,
             ),
@@ -232,15 +232,15 @@ impl<'a> Teller<'a> {
                     Member::NumberOrNone("answer", wide(frame.answer)),
                     Member::Text("effect", frame.effect.code()),
                     Member::Text("event", "applied"),
-                    Member::Number("from", u64::from(frame.from)),
-                    Member::Number("k", u64::from(*k)),
-                    Member::Number("line", u64::from(self.line)),
+                    Member::Number("from", frame.from as u64),
+                    Member::Number("k", *k as u64),
+                    Member::Number("line", self.line as u64),
                     Member::Message("message", message.get()),
                     Member::NumberOrNone("new", new_packs(frame.effect)),
-                    Member::Number("number", u64::from(frame.number)),
+                    Member::Number("number", frame.number as u64),
                     Member::NumberOrNone("old", old_packs(frame.effect)),
-                    Member::Number("stamp", u64::from(*stamp)),
-                    Member::Number("to", u64::from(frame.to)),
+                    Member::Number("stamp", *stamp as u64),
+                    Member::Number("to", frame.to as u64),
                 ],
                 out,
             ),
@@ -257,10 +257,10 @@ impl<'a> Teller<'a> {
         };
         let members = [
             Member::Text("event", "closed"),
-            Member::Number("from", u64::from(from)),
-            Member::Number("line", u64::from(self.line)),
+            Member::Number("from", from as u64),
+            Member::Number("line", self.line as u64),
             Member::Number("stamp", self.world.hub().record().len() as u64),
-            Member::Number("to", u64::from(to)),
+            Member::Number("to", to as u64),
         ];
         self.say(&members, out)
     }
@@ -280,9 +280,9 @@ impl<'a> Teller<'a> {
             Member::Text("event", "verdict"),
             Member::FlagOrNone("falsification", suspicion(*verdict)),
             Member::Text("gtin", key.gtin.as_str()),
-            Member::Number("line", u64::from(self.line)),
-            Member::Number("party", u64::from(party)),
-            Member::Number("q", u64::from(q)),
+            Member::Number("line", self.line as u64),
+            Member::Number("party", party as u64),
+            Member::Number("q", q as u64),
             Member::Text("serial", key.serial.as_str()),
             Member::Text("verdict", verdict_name(*verdict)),
         ];
@@ -330,7 +330,7 @@ fn wide(number: Option<u32>) -> Option<u64>
     ensures { result ≡ number }
 {
     match number {
-        Some(number) => Some(u64::from(number)),
+        Some(number) => Some(number as u64),
         None => None,
     }
 }

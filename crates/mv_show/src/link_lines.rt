@@ -62,11 +62,11 @@ fn append_shown_link(
     lines.push(&[
         Member::Number("applied", count_from(world.log(to), from) as u64),
         Member::Flag("closed", !hub.is_open(from, to)),
-        Member::Number("from", u64::from(from)),
-        Member::Number("put", u64::from(hub.total(from, to))),
-        Member::Number("relayed", u64::from(hub.relayed(from, to))),
+        Member::Number("from", from as u64),
+        Member::Number("put", hub.total(from, to) as u64),
+        Member::Number("relayed", hub.relayed(from, to) as u64),
         Member::Text("show", "link"),
-        Member::Number("to", u64::from(to)),
+        Member::Number("to", to as u64),
         Member::Numbers("wire", wire.as_slice()),
     ])
 }

@@ -52,10 +52,10 @@ fn append_party(lines: &mut Lines, world: &World, party: Party) -> Result<(), Al
         Member::Number("active", counts.active as u64),
         Member::Number("applied", counts.entries as u64),
         Member::Number("packs", counts.packs as u64),
-        Member::Number("party", u64::from(party)),
+        Member::Number("party", party as u64),
         Member::Number("products", counts.products as u64),
         Member::Number("recalled", counts.recalled as u64),
-        Member::Number("routed", u64::from(routed)),
+        Member::Number("routed", routed as u64),
         Member::Text("show", "party"),
         Member::Number("submitted", submitted as u64),
     ])
@@ -76,7 +76,7 @@ fn append_product(lines: &mut Lines, repository: &Repository, gtin: &Gtin) -> Re
         }
         None => lines.push(&[
             Member::Text("gtin", gtin.as_str()),
-            Member::Number("party", u64::from(repository.party())),
+            Member::Number("party", repository.party() as u64),
             Member::Null("product"),
             Member::Text("show", "product"),
             Member::Flag("withdrawn", repository.withdrawn(gtin)),
@@ -98,7 +98,7 @@ fn append_master<'a>(
 {
     lines.push(&[
         Member::Text("gtin", gtin.as_str()),
-        Member::Number("party", u64::from(repository.party())),
+        Member::Number("party", repository.party() as u64),
         Member::Message("product", master),
         Member::Text("show", "product"),
         Member::Flag("withdrawn", repository.withdrawn(gtin)),
@@ -113,7 +113,7 @@ fn append_recall(lines: &mut Lines, party: Party, key: &BatchKey) -> Result<(), 
     lines.push(&[
         Member::Text("batch", key.batch.as_str()),
         Member::Text("gtin", key.gtin.as_str()),
-        Member::Number("party", u64::from(party)),
+        Member::Number("party", party as u64),
         Member::Text("show", "recall"),
     ])
 }
@@ -165,7 +165,7 @@ fn append_held<'a>(
         Member::Text("expiry", dated.expiry.as_str()),
         Member::Text("gtin", key.gtin.as_str()),
         Member::National("national", &held.national),
-        Member::Number("party", u64::from(repository.party())),
+        Member::Number("party", repository.party() as u64),
         Member::Flag("recalled", repository.recalled(&batch)),
         Member::Text("serial", key.serial.as_str()),
         Member::Text("show", "pack"),

@@ -1,7 +1,7 @@
 -- The hub routed what is taken from the uplink.
-use Rattle.mv_ends.proofs.Words.{ap, false, get_or, ◌∙◌, ◌≡◌, ◌+◌, length, rules, routed_count, with_item}
+use Rattle.mv_ends.proofs.Words.{ap, refl, false, get_or, ◌∙◌, ◌≡◌, ◌+◌, length, rules, routed_count, with_item}
 use Rattle.mv_machine.specs.declared.reply.Reply.TheVariants.{Routed}
-use Rattle.mv_ends.proofs.EndLemmas.{of_links_entered, took_routed, within_routed, route_refused}
+use Rattle.mv_ends.proofs.EndLemmas.{lawful_routed, of_links_entered, room_left, route_refused, route_wanting, took_routed, within_routed}
 use Rattle.mv_ends.proofs.hub_end.HubEnd.route.Goals as goal
 
 pub invariant_of-self-in-Ok-clause-took : goal.invariant_of-self-in-Ok-clause-took
@@ -41,3 +41,16 @@ pub returns-in-Err-clause-reply : goal.returns-in-Err-clause-reply
 returns-in-Err-clause-reply c =
     rw c.from.ensures (route_refused c.args.self.now _ c.args.from c.message.result.now c.in-Err.fault (search rules) (search rules) (search rules)
     c.message.ensures c.in-Err.ensures.err)
+
+pub invariant_of-self-in-Ok-clause-lawful : goal.invariant_of-self-in-Ok-clause-lawful
+invariant_of-self-in-Ok-clause-lawful c =
+    rw c.in-Ok.ensures.ok (lawful_routed c.args.self.now.hub c.args.from c.in_hand.result.now (search rules) c.args.self.now.lawful)
+
+-- the record has room for one more entry
+pub check-requires : goal.check-requires
+check-requires c =
+    room_left _ c.args.self.now.limits.submissions c.args.self.now.hub refl c.args.self.now.lawful (search rules) (search rules) c.args.self.now.within
+
+pub route-requires : goal.route-requires
+route-requires c =
+    room_left _ c.args.self.now.limits.submissions c.args.self.now.hub refl c.args.self.now.lawful (search rules) (search rules) c.args.self.now.within

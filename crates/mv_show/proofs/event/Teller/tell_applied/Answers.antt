@@ -9,7 +9,7 @@ returns-in-Receipt c =
     let frame = c.args.frame in
     rw c.in-Receipt.is (says_tells c.say.result _ _ _
     (applied frame.to frame.number frame.effect frame.answer (entry_from frame.from (Receipt c.in-Receipt.k c.in-Receipt.reach c.in-Receipt.query)))
-    (rw (c.code.ensures, c.from.ensures, c.from-in-Receipt.ensures, c.from-in-Receipt-2.ensures, c.from-in-Receipt-3.ensures, c.from-in-Receipt-4.ensures) at c.say.ensures))
+    (rw c.code.ensures at c.say.ensures))
 
 -- a message
 pub returns-in-Carried : goal.returns-in-Carried
@@ -17,4 +17,4 @@ returns-in-Carried c =
     let frame = c.args.frame in
     rw c.in-Carried.is (says_tells c.say-in-Carried.result _ _ _
     (applied frame.to frame.number frame.effect frame.answer (entry_from frame.from (Carried c.in-Carried.k c.in-Carried.stamp c.in-Carried.message)))
-    (rw (c.wide.ensures, c.code-in-Carried.ensures, c.from-in-Carried.ensures, c.from-in-Carried-2.ensures, c.from-in-Carried-3.ensures, c.get.ensures, c.new_packs.ensures, c.from-in-Carried-4.ensures, c.old_packs.ensures, c.from-in-Carried-5.ensures, c.from-in-Carried-6.ensures) at c.say-in-Carried.ensures))
+    (rw (c.wide.ensures, c.code-in-Carried.ensures, c.get.ensures, c.new_packs.ensures, c.old_packs.ensures) at c.say-in-Carried.ensures))

@@ -11,4 +11,4 @@ returns c =
     rw c.in-Routed.is (route_tells c.say.result _ _ _ c.in-Routed.reach c.args.self.now.world.now.hub.entries entry.from entry.k entry.message c.get.result.now
     (sym (rw same at c.last.ensures.value) ∙ ap option_copied entry.is ∙ ap (λ e. Some e) entry.field-0-is)
     c.get.ensures
-    (rw (c.from.ensures, c.from-2.ensures, c.from-3.ensures, same) at c.say.ensures))
+    (rw same at c.say.ensures))

@@ -1,5 +1,5 @@
 -- What the hub keeps, through a routing and a relay.
-use Rattle.mv_hub.proofs.Words.{◌≡◌, ℕ, ◌+◌, ◌<◌, ◌≤◌, Bool, true, false, ◌&&◌, ◌||◌, not, List, [], ◌∷◌, ◌++◌, length, get_or, set, cond, None, sym, refl, ap, ◌∙◌, arith, inl, inr, append-nil, ◌↔◌, length-set, ◌==◌, nat_lt, find, replicate, All, Carries, Closed, Entry, HasRoom, HubState, IsKept, IsRouting, IsSquare, Item, Message, PartySet, PushesItems, PushesRow, Routed, Sending, busy_party, cases_eq, cell, cell-map, elements, eq-eqb, find-none_at, find-those, gain_of, gained, get_or-replicate, get_or_default, has_party, is_busy, is_open, is_query, is_reached, is_target, items_on, length-replicate, link_at, link_items, listed-in, nat_tests, new_hub, new_sending, next_items, parties_in, put, put-map, reach, routed_count, sent_of, sent_table, table-all, with_relayed}
+use Rattle.mv_hub.proofs.Words.{◌≡◌, ℕ, ◌+◌, ◌<◌, ◌≤◌, Bool, true, false, ◌&&◌, ◌||◌, not, List, [], ◌∷◌, ◌++◌, length, get_or, set, cond, None, sym, refl, ap, ◌∙◌, arith, inl, inr, append-nil, ◌↔◌, length-set, ◌==◌, nat_lt, find, replicate, All, Carries, Closed, Entry, HasRoom, HubState, IsKept, IsRouting, IsSquare, Item, Message, PartySet, PushesItems, PushesRow, Routed, Sending, busy_party, cases_eq, cell, cell-map, elements, eq-eqb, find-none_at, find-those, gain_of, gained, get_or-replicate, get_or_default, has_party, is_busy, is_open, is_query, is_reached, is_target, items_on, length-replicate, link_at, link_items, listed-in, nat_tests, new_hub, new_sending, next_items, parties_in, put, put-each_pair, put-map, reach, routed_count, sent_of, sent_table, square-put, table-all, with_relayed}
 use Rattle.mv_link.specs.declared.item.Item.TheVariants.{Receipt, Carried}
 use Rattle.mv_link.specs.declared.limits.TheConstants.{PARTIES_LIMIT}
 use Rattle.mv_hub.specs.declared.hub.routing.Routing.{Routing}
@@ -64,6 +64,13 @@ carries-gain : (window : ℕ) (items more : List Item) (old new : Sending) → C
     → HasRoom old (length more) → Carries window (items ++ more) new
 carries-gain window items more old new carries gains room = grind arith
 
+carries-relayed : (window : ℕ) (items : List Item) (link : Sending) → Carries window items link → Carries window items (record link { sent = link.sent + 1 })
+carries-relayed window items link carries = record {
+  window = carries.window;
+  ends = record { front = carries.ends.front; whole = carries.ends.whole; count = carries.ends.count };
+  fits = (omega arith, carries.fits.1);
+}
+
 module _ {parties : List (List (List ℕ))} {window : ℕ} {entries : List Entry} {routed_counts : List ℕ} {open_links : List PartySet}
     {links : List (List Sending)} (kept : IsKept parties window entries routed_counts open_links links) where
   -- a link that gains nothing is not busy
@@ -123,6 +130,23 @@ module _ {parties : List (List (List ℕ))} {window : ℕ} {entries : List Entry
       → ((other : ℕ) → has_party rest other ≡ (has_party opened other && not (other == to)))
       → IsKept parties window (entries ++ Closed from to ∷ []) routed_counts (set open_links from rest) links
   kept_closed from to opened rest is_from at without = grind (arith, get_or_default, routed_from-append, Closed, append-nil, elements, is_open-append, link_items-push, gained-closed)
+
+  -- all that the hub keeps, once an item of a link was relayed
+  pub kept-relayed : (from to : ℕ) (old new : Sending) → from < length parties → to < length parties → link_at links from to ≡ old
+      → new ≡ record old { sent = old.sent + 1 } → IsKept parties window entries routed_counts open_links (put links from to new)
+  kept-relayed from to old new is_from is_to at e =
+      let was = rw at at (kept.carries from to is_from is_to) in
+      record {
+        some = kept.some;
+        few = kept.few;
+        counted = kept.counted;
+        counts = kept.counts;
+        opened = kept.opened;
+        opens = kept.opens;
+        square = square-put (length parties) links from to new kept.square;
+        carries = put-each_pair (λ i j v. i < length parties → j < length parties → Carries window (link_items parties entries i j) v) links from to new
+            (new_sending 0) (λ _ _. rw e (carries-relayed window _ old was)) kept.carries;
+      }
 
 -- what the hub is seen as, once an item was relayed
 pub view_relayed : (parties : List (List (List ℕ))) (window : ℕ) (entries : List Entry) (links : List (List Sending)) (from to : ℕ) (new : Sending)

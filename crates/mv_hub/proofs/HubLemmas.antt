@@ -1,7 +1,5 @@
 -- What the hub keeps, through a routing and a relay.
-use Rattle.mv_hub.proofs.Words.{◌≡◌, ℕ, ◌+◌, ◌<◌, ◌≤◌, Bool, true, false, ◌&&◌, ◌||◌, not, List, [], ◌∷◌, ◌++◌, length, get_or, set, cond, None, sym, refl, ap, ◌∙◌, arith, inl, inr, append-nil, ◌↔◌, length-set, ◌==◌, nat_lt, find, replicate, All, Carries, Closed, Entry, HasRoom, HubState, IsKept, IsRouting, IsSquare, Item, Message, PartySet, PushesItems, PushesRow, Routed, Sending, busy_party, cases_eq, cell, cell-map, elements, eq-eqb, find-none_at, find-those, gain_of, gained, get_or-replicate, get_or_default, has_party, is_busy, is_open, is_query, is_reached, is_target, items_on, length-replicate, link_at, link_items, listed-in, nat_tests, new_hub, new_sending, next_items, parties_in, put, put-each_pair, put-map, reach, routed_count, sent_of, sent_table, square-put, table-all, with_relayed}
-use Rattle.mv_link.specs.declared.item.Item.TheVariants.{Receipt, Carried}
-use Rattle.mv_link.specs.declared.limits.TheConstants.{PARTIES_LIMIT}
+use Rattle.mv_hub.proofs.Words.{◌≡◌, ℕ, ◌+◌, ◌<◌, ◌≤◌, Bool, true, false, ◌&&◌, ◌||◌, not, List, [], ◌∷◌, ◌++◌, length, get_or, set, cond, None, sym, refl, ap, ◌∙◌, arith, inl, inr, append-nil, ◌↔◌, length-set, ◌==◌, nat_lt, find, replicate, rules, All, Carried, Carries, Closed, Entry, HasRoom, HubState, IsKept, IsRouting, IsSquare, Item, Message, PARTIES_LIMIT, PartySet, PushesItems, PushesRow, Receipt, Routed, Sending, busy_party, cases_eq, cell, cell-map, elements, eq-eqb, find-none_at, find-those, gain_of, gained, get_or-replicate, get_or_default, has_party, is_busy, is_open, is_query, is_reached, is_target, items_on, length-replicate, link_at, link_items, listed-in, nat_tests, new_hub, new_sending, next_items, parties_in, put, put-each_pair, put-map, reach, routed_count, sent_of, sent_table, square-put, table-all, with_relayed}
 use Rattle.mv_hub.specs.declared.hub.routing.Routing.{Routing}
 use Rattle.mv_hub.proofs.RecordLemmas.{routed_from-append, is_open-append, link_items-push, gained_other, gained-closed}
 
@@ -65,11 +63,7 @@ carries-gain : (window : ℕ) (items more : List Item) (old new : Sending) → C
 carries-gain window items more old new carries gains room = grind arith
 
 carries-relayed : (window : ℕ) (items : List Item) (link : Sending) → Carries window items link → Carries window items (record link { sent = link.sent + 1 })
-carries-relayed window items link carries = record {
-  window = carries.window;
-  ends = record { front = carries.ends.front; whole = carries.ends.whole; count = carries.ends.count };
-  fits = (omega arith, carries.fits.1);
-}
+carries-relayed window items link carries = search rules
 
 module _ {parties : List (List (List ℕ))} {window : ℕ} {entries : List Entry} {routed_counts : List ℕ} {open_links : List PartySet}
     {links : List (List Sending)} (kept : IsKept parties window entries routed_counts open_links links) where
@@ -135,18 +129,9 @@ module _ {parties : List (List (List ℕ))} {window : ℕ} {entries : List Entry
   pub kept-relayed : (from to : ℕ) (old new : Sending) → from < length parties → to < length parties → link_at links from to ≡ old
       → new ≡ record old { sent = old.sent + 1 } → IsKept parties window entries routed_counts open_links (put links from to new)
   kept-relayed from to old new is_from is_to at e =
-      let was = rw at at (kept.carries from to is_from is_to) in
-      record {
-        some = kept.some;
-        few = kept.few;
-        counted = kept.counted;
-        counts = kept.counts;
-        opened = kept.opened;
-        opens = kept.opens;
-        square = square-put (length parties) links from to new kept.square;
-        carries = put-each_pair (λ i j v. i < length parties → j < length parties → Carries window (link_items parties entries i j) v) links from to new
-            (new_sending 0) (λ _ _. rw e (carries-relayed window _ old was)) kept.carries;
-      }
+      let carried = put-each_pair (λ i j v. i < length parties → j < length parties → Carries window (link_items parties entries i j) v) links from to new
+      (new_sending 0) (λ _ _. rw e (carries-relayed window _ old (rw at at (kept.carries from to is_from is_to)))) kept.carries in
+      search (rules, square-put, carried)
 
 -- what the hub is seen as, once an item was relayed
 pub view_relayed : (parties : List (List (List ℕ))) (window : ℕ) (entries : List Entry) (links : List (List Sending)) (from to : ℕ) (new : Sending)

@@ -11,7 +11,7 @@ pub use Rattle.mv_hub.specs.Record.{is_open, product_in, routed_count, routed_fr
 unfoldable pub use Rattle.mv_hub.specs.Record.{last_product}
 pub use Rattle.mv_hub.specs.Targets.{is_query, is_target}
 unfoldable pub use Rattle.mv_hub.specs.Targets.{is_reached, reach}
-pub use Rattle.mv_hub.specs.Words.{BatchKey, Closed, Entry, HasRoom, IsSquare, Item, Message, Routed, Sending, cell, has_party, is_same_batch, insert_all, new_sending, parties_in, pointwise, put}
+pub use Rattle.mv_hub.specs.Words.{BatchKey, Carried, Closed, Entry, HasRoom, IsSquare, Item, Message, PARTIES_LIMIT, Receipt, Routed, Sending, cell, has_party, is_same_batch, insert_all, new_sending, parties_in, pointwise, put}
 pub use Rattle.mv_hub.specs.inside.Kept.{AreTables, Carries, IsKept, IsRouting, PushesItems, PushesRow, carried_by, gain_of, link_at, receipt_to, sent_table, AreNoted, Gathers, LinkTable, catalogue_after, catalogue_in, is_found, linked_in, no_catalogue}
 pub use Rattle.mv_link.proofs.CallerLemmas.{find-none_at, find-those, listed-in}
 pub use Rattle.mv_link.specs.declared.party_set.PartySet.{PartySet}

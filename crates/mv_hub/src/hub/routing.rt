@@ -120,7 +120,6 @@ impl Hub {
     ///
     /// The first of these that holds is the fault: H4, there is no such party; H5, a link has no room for what it would
     /// gain, the least such; H7, memory was refused.
-    #[tactic(auto, using(crate::proofs::HubLemmas::reach_listed, crate::proofs::HubLemmas::reached_below), unfolding(crate::specs::Hub::route_fault))]
     pub fn route(
         &mut self,
         from: Party,

@@ -47,7 +47,6 @@ impl AuditTrail {
     }
 
     /// The batches to which a chain of one or more links leads from a batch, ascending. Refused for want of memory.
-    #[tactic(auto, using(crate::proofs::SearchLemmas::searching_start, crate::proofs::SearchLemmas::searching_more))]
     pub(crate) fn descendants(&self, batch: &BatchKey) -> Result<Vec<BatchKey>, AllocError>
         ensures { IfOk result (λ list.
             IsAscendingList list.items (IsDescendant self.now batch.now)) }

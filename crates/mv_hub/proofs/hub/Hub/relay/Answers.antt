@@ -7,6 +7,7 @@ pub invariant_of-self : goal.invariant_of-self
 invariant_of-self c =
     rw (put-read _ c.args.from c.args.to _ (new_sending 0) (c.in_err-relay.ensures.err ∙ sym (c.at_mut-link.ensures.value (new_sending 0)))) c.self.invariant
 
+-- one item more was relayed on the link
 pub invariant_of-self-2 : goal.invariant_of-self-2
 invariant_of-self-2 c =
     let (is_from, is_to) : (c.args.from < length c.self.inside.parties) × (c.args.to < length c.self.inside.parties) = search rules in
@@ -18,6 +19,5 @@ returns-in_err-relay-clause-err c =
 
 pub returns-clause-ok : goal.returns-clause-ok
 returns-clause-ok c =
-    let a = c.self.inside in
-    rw (← c.self.view_is) (view_relayed a.parties a.window a.trail a.links c.args.from c.args.to c.relay.new.self
+    rw (← c.self.view_is) (view_relayed _ _ _ _ c.args.from c.args.to c.relay.new.self
     (rw (c.at_mut-link.ensures.value (new_sending 0)) (ap (λ (v : Sending). v.sent) c.in_ok-relay.ensures.ok)))

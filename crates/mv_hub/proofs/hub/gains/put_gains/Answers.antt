@@ -1,5 +1,5 @@
 use Rattle.mv_hub.proofs.Words.{◌∙◌, length, sym, ap, append_assoc, arith, replicate, and_parts, carried_by, new_sending, parties_in}
-use Rattle.mv_hub.proofs.LinksLemmas.{row-push, carried-more, pop-equal}
+use Rattle.mv_hub.proofs.LinksLemmas.{row-push, carried-more, pop-equal, row-same}
 use Rattle.mv_hub.proofs.hub.gains.put_gains.Goals as goal
 
 pub loop-to-init : goal.loop-to-init
@@ -24,3 +24,7 @@ loop-to-preserved c =
       left = λ other e. before.left other (and_parts _ _ (sym (sets.2 other) ∙ e)).0;
       each = popped.0;
     }
+
+-- no party is left
+pub returns : goal.returns
+returns c = row-same (λ to lt. grind (arith, c.in_default.ensures.sets to)) c.loop-to.invariant.row

@@ -1,5 +1,4 @@
-use Rattle.std.proofs.Common.{[], arith, refl}
-use Rattle.mv_link.specs.Sending.{new_sending}
+use Rattle.mv_hub.proofs.Words.{[], arith, new_sending, refl}
 use Rattle.mv_hub.proofs.LinksLemmas.{row-none, row-push}
 use Rattle.mv_hub.proofs.hub.gains.put_receipt.Goals as goal
 

@@ -7,7 +7,10 @@ use Rattle.clap.proofs.ValueTestLemmas.{Accepts-accepts}
 use Rattle.std.specs.List.{AllByRecursion}
 use Rattle.clap.specs.Walk.{Text, Walk, nothing_held, positional, walk, walk_from, walked}
 use Rattle.clap.specs.Faults.{walk_fault}
-use Rattle.clap.specs.Kinds.{range_kinds, values_kinds}
+use Rattle.clap.specs.Kinds.{Kinds, range_kinds, values_kinds}
+use Rattle.clap.specs.Values.{kind_of}
+use Rattle.clap.specs.declared.error.kind.ErrorKind.TheVariants.{OutOfMemory}
+use Rattle.std.specs.Prelude.{Err, IfErr, Ok}
 use Rattle.clap.specs.Simple.{Shape, built, built_leaf, entered, names_of}
 use Rattle.clap.proofs.FaultLemmas.{stopped_fault}
 use Rattle.clap.proofs.WalkLemmas.{one_text-rows, raw_values-rows, walk_stopped}
@@ -99,6 +102,11 @@ pub fails_by : {T : Type 0} (line : App) (words : List (List ℕ)) (r : Result T
     → (is_simple_and_free line ≡ true → FailsBy (fault_of line words) r) → FailsBy (fault_of command_line words) r
 unfolding clap_on_literals
 fails_by line words r is fails = (rw is at fails) refl
+
+-- what follows a parse without a fault fails by want of memory alone
+pub memory_fails : {T : Type 0} (kinds : Kinds) (r : Result T Error) → kinds ≡ [] → IfErr r (λ e. kind_of e ≡ OutOfMemory) → FailsBy kinds r
+memory_fails kinds (Ok value) none memory = none
+memory_fails kinds (Err e) none memory = inl memory
 
 -- the matches have the text that the rows have
 pub text_given : (found : Found) (id text : List ℕ) → one_of id (rows_of found) ≡ Some text → one_text found id ≡ Some text

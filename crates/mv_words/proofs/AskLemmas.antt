@@ -7,10 +7,10 @@ use Rattle.clap.proofs.ValueTestLemmas.{Accepts-accepts}
 use Rattle.std.specs.List.{AllByRecursion}
 use Rattle.clap.specs.Walk.{Text, Walk, nothing_held, positional, walk, walk_from, walked}
 use Rattle.clap.specs.Faults.{walk_fault}
-use Rattle.clap.specs.Kinds.{Kinds, range_kinds, values_kinds}
+use Rattle.clap.specs.Kinds.{HasKind, Kinds, range_kinds, values_kinds}
 use Rattle.clap.specs.Values.{kind_of}
 use Rattle.clap.specs.declared.error.kind.ErrorKind.TheVariants.{OutOfMemory}
-use Rattle.std.specs.Prelude.{Err, IfErr, Ok}
+use Rattle.std.specs.Prelude.{Err, IfErr, IsErrAnd, Ok}
 use Rattle.clap.specs.Simple.{Shape, built, built_leaf, entered, names_of}
 use Rattle.clap.proofs.FaultLemmas.{stopped_fault}
 use Rattle.clap.proofs.WalkLemmas.{one_text-rows, raw_values-rows, walk_stopped}
@@ -107,6 +107,11 @@ fails_by line words r is fails = (rw is at fails) refl
 pub memory_fails : {T : Type 0} (kinds : Kinds) (r : Result T Error) → kinds ≡ [] → IfErr r (λ e. kind_of e ≡ OutOfMemory) → FailsBy kinds r
 memory_fails kinds (Ok value) none memory = none
 memory_fails kinds (Err e) none memory = inl memory
+
+-- an error that is passed on is still one of the parse
+pub passed_on : {T : Type 0} (kinds : Kinds) (e : Error) (r : Result T Error) → HasKind kinds e → IsErrAnd r (λ f. f ≡ e) → FailsBy kinds r
+passed_on kinds e (Ok value) has is = absurd is
+passed_on kinds e (Err f) has is = rw is has
 
 -- the matches have the text that the rows have
 pub text_given : (found : Found) (id text : List ℕ) → one_of id (rows_of found) ≡ Some text → one_text found id ≡ Some text

@@ -1,5 +1,5 @@
 use Rattle.std.proofs.Common.{arith}
-use Rattle.mv_words.proofs.AskLemmas.{fails_by, memory_fails}
+use Rattle.mv_words.proofs.AskLemmas.{fails_by, memory_fails, passed_on}
 use Rattle.mv_words.proofs.task.task_of.Goals as goal
 
 -- the command line is built as it is defined, so it takes what asks for a task
@@ -12,3 +12,9 @@ pub returns-clause-taken : goal.returns-clause-taken
 returns-clause-taken c =
     let fails = fails_by _ _ _ c.in_ok-command_line.ensures c.try_get_matches_from.ensures.kinds in
     memory_fails _ _ (rw c.in_ok-matches.was at fails) c.task_found.ensures.memory
+
+-- the error is that of the parse
+pub returns-in_err-matches-clause-taken : goal.returns-in_err-matches-clause-taken
+returns-in_err-matches-clause-taken c =
+    let fails = fails_by _ _ _ c.in_ok-command_line.ensures c.try_get_matches_from.ensures.kinds in
+    passed_on _ _ _ (rw c.in_err-matches.was at fails) c.from_residual-in_err-matches.ensures.1

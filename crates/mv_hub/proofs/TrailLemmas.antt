@@ -38,13 +38,12 @@ abbrev pub known : Option Catalogue → Option Product → Option Listing → Op
 known catalogue None None = catalogue
 known catalogue product listing = Some (catalogue_after (unwrap_or catalogue no_catalogue) product listing)
 
--- a table of batches after, once more were put behind those of one batch, whose list is made where it has none
-pub linked-put : (old new : LinkTable) (before : BatchKey) (read none written : Vec BatchKey Global) (more : List BatchKey)
+-- a table of batches after, once the list of one batch was written that has these more
+pub linked-put : (old new : LinkTable) (before : BatchKey) (written : Vec BatchKey Global) (more : List BatchKey)
     → ((other : BatchKey) → lookup (is_same_batch other) new ≡ cond (is_same_batch before other) (Some written) (lookup (is_same_batch other) old))
-    → read ≡ unwrap_or (lookup (is_same_batch before) old) none → none.items ≡ [] → written.items ≡ read.items ++ more
+    → written.items ≡ linked_in old before ++ more
     → (other : BatchKey) → linked_in new other ≡ linked_in old other ++ cond (is_same_batch before other) more []
-linked-put old new before read none written more put reads empty pushed other =
-    grind (arith, put other, batch-same before other, append-nil {A = BatchKey})
+linked-put old new before written more put is other = grind (arith, put other, batch-same before other, append-nil {A = BatchKey})
 
 -- the tables once one more entry stands at the end, where they changed by what that says
 pub tables-push : (entries : List Entry) (entry : Entry) (old new : List (List ℕ × Catalogue)) (old_links new_links : LinkTable)

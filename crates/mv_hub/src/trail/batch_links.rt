@@ -23,8 +23,12 @@ pub(super) fn add_link(
     ensures err { OnErr result ((other : ABatch) → linked_in links.new.entries other
         ≡ linked_in links.old.entries other) }
 {
-    let batches = links.entry(before.copy())?.or_insert(Vec::new(alloc));
-    Ok(batches.push(after.copy())?)
+    if let Some(batches) = links.get_mut(before) {
+        return Ok(batches.push(after.copy())?);
+    }
+    let batches = vec![in alloc; after.copy()]?;
+    links.insert(before.copy(), batches)?;
+    Ok(())
 }
 
 impl AuditTrail {

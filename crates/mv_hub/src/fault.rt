@@ -5,29 +5,37 @@ ghost use Rattle.std.specs.Prelude.{◌≡◌};
 use mv_link::LinkFault;
 use mv_message::Party;
 use std::alloc::AllocError;
-use std::error::Error;
-use std::fmt;
+use thiserror::Error;
 
 /// Why parties cannot be made, why the hub gives no frame, or why it closes no link.
-#[derive(Clone, Copy, Debug, PartialEq, Eq)]
+#[derive(Clone, Copy, Debug, PartialEq, Eq, Error)]
 pub enum HubFault {
     /// H1: there is no party.
+    #[error("there is no party")]
     NoParty,
     /// H2: there are more than 64 parties.
+    #[error("there are more than 64 parties")]
     TooMany,
     /// H3: a market is served twice.
+    #[error("a market is served twice")]
     ServedTwice,
     /// H4: there is no such party.
+    #[error("there is no such party")]
     StrangerParty,
     /// H6: the link was closed before.
+    #[error("the link was closed before")]
     AlreadyClosed,
     /// H7: memory was refused.
+    #[error("out of memory")]
     Memory,
     /// H8: every item of the link has been relayed.
+    #[error("every item of the link has been relayed")]
     Nothing,
     /// H9: no frame of this number was relayed.
+    #[error("no frame of this number was relayed")]
     NotSent,
     /// H10: the frame of this number is kept no longer.
+    #[error("the frame of this number is kept no longer")]
     Gone,
 }
 
@@ -51,24 +59,6 @@ impl HubFault {
         }
     }
 }
-
-impl fmt::Display for HubFault {
-    fn fmt<W: fmt::Write>(&self, f: &mut fmt::Formatter<W>) -> fmt::Result {
-        f.write_str(match self {
-            HubFault::NoParty => "there is no party",
-            HubFault::TooMany => "there are more than 64 parties",
-            HubFault::ServedTwice => "a market is served twice",
-            HubFault::StrangerParty => "there is no such party",
-            HubFault::AlreadyClosed => "the link was closed before",
-            HubFault::Memory => "out of memory",
-            HubFault::Nothing => "every item of the link has been relayed",
-            HubFault::NotSent => "no frame of this number was relayed",
-            HubFault::Gone => "the frame of this number is kept no longer",
-        })
-    }
-}
-
-impl Error for HubFault {}
 
 impl From<LinkFault> for HubFault {
     ghost use Rattle.std.specs.Prelude.{◌≡◌};
@@ -98,13 +88,16 @@ impl From<AllocError> for HubFault {
 }
 
 /// Why the hub does not route a message.
-#[derive(Clone, Copy, Debug, PartialEq, Eq)]
+#[derive(Clone, Copy, Debug, PartialEq, Eq, Error)]
 pub enum RouteFault {
     /// H4: there is no such party.
+    #[error("there is no such party")]
     StrangerParty,
     /// H5: the link to this party, the least such, has no room for what the message would put on it.
+    #[error("the link to party {0} has no room")]
     Busy(Party),
     /// H7: memory was refused.
+    #[error("out of memory")]
     Memory,
 }
 
@@ -122,18 +115,6 @@ impl RouteFault {
         }
     }
 }
-
-impl fmt::Display for RouteFault {
-    fn fmt<W: fmt::Write>(&self, f: &mut fmt::Formatter<W>) -> fmt::Result {
-        match self {
-            RouteFault::StrangerParty => f.write_str("there is no such party"),
-            RouteFault::Busy(to) => write!(f, "the link to party {to} has no room"),
-            RouteFault::Memory => f.write_str("out of memory"),
-        }
-    }
-}
-
-impl Error for RouteFault {}
 
 impl From<AllocError> for RouteFault {
     ghost use Rattle.std.specs.Prelude.{◌≡◌};

@@ -1,5 +1,5 @@
 -- What the words of the command line ask for, and what a parse by it met.
-use Rattle.mv_words.proofs.Names.{App, ExplainAsks, ExplainsUnsignedError, FailsBy, HasMatchesOf, HasNoMinus, HasUnsignedDigitsIfOk, IsNumeral, List, None, OptionAsks, ParsesUnsigned, ReadsOne, Result, Some, String, Unsigned, WritesTurns, [], all_of, ap, append-nil, append_assoc, arith, clap_on_literals, code_rule, codes, command_line, digits_value, false, fault_of, fold, inl, inr, is_simple_and_free, length, matched_of, new_app, one_of, one_text, option_map, raw_values, refl, rows_of, strip_byte, subcommand_of, subcommand_rows_of, sym, true, usize_max, with_rule, without_leading_plus, ℕ, ◌++◌, ◌<◌, ◌∙◌, ◌∷◌, ◌≡◌}
+use Rattle.mv_words.proofs.Names.{App, ExplainAsks, ExplainsUnsignedError, FailsBy, HasNoMinus, HasUnsignedDigitsIfOk, IsNumeral, List, None, OptionAsks, ParsesUnsigned, ReadsOne, Result, Some, String, Unsigned, WritesTurns, [], all_of, ap, append-nil, append_assoc, arith, clap_on_literals, code_rule, codes, command_line, digits_value, false, fault_of, fold, inl, inr, is_simple_and_free, length, matched_of, new_app, one_of, one_text, option_map, raw_values, refl, rows_of, strip_byte, sym, true, usize_max, with_rule, without_leading_plus, ℕ, ◌++◌, ◌<◌, ◌∙◌, ◌∷◌, ◌≡◌}
 use Rattle.std.specs.Str.{bytes_eq}
 use Rattle.std.proofs.lemmas.Bool.{ne_eqb}
 use Rattle.clap.specs.ValueTests.{accepts}
@@ -7,15 +7,11 @@ use Rattle.clap.proofs.ValueTestLemmas.{Accepts-accepts}
 use Rattle.std.specs.List.{AllByRecursion}
 use Rattle.clap.specs.Walk.{Text, Walk, nothing_held, positional, walk, walk_from, walked}
 use Rattle.clap.specs.Faults.{walk_fault}
-use Rattle.clap.specs.Kinds.{Kinds, range_kinds, values_kinds}
-use Rattle.clap.specs.Values.{kind_of}
-use Rattle.clap.specs.declared.error.kind.ErrorKind.TheVariants.{OutOfMemory}
-use Rattle.std.specs.Prelude.{Err, IfErr, IfOk, IsErrAnd, MatchResult, Ok}
+use Rattle.clap.specs.Kinds.{range_kinds, values_kinds}
 use Rattle.clap.specs.Simple.{Shape, built, built_leaf, entered, names_of}
 use Rattle.clap.proofs.FaultLemmas.{stopped_fault}
 use Rattle.clap.proofs.WalkLemmas.{one_text-rows, raw_values-rows, walk_stopped}
 use Rattle.std.specs.declared.option.Option.{Option}
-use Rattle.clap.specs.declared.parser.matches.ArgMatches.{ArgMatches}
 use Rattle.clap.specs.declared.parser.matches.Found.{Found}
 use Rattle.clap.specs.declared.error.Error.{Error}
 
@@ -103,27 +99,6 @@ pub fails_by : {T : Type 0} (line : App) (words : List (List ℕ)) (r : Result T
     → (is_simple_and_free line ≡ true → FailsBy (fault_of line words) r) → FailsBy (fault_of command_line words) r
 unfolding clap_on_literals
 fails_by line words r is fails = (rw is at fails) refl
-
--- what follows a parse without a fault fails by want of memory alone
-pub memory_fails : {T : Type 0} (kinds : Kinds) (r : Result T Error) → kinds ≡ [] → IfErr r (λ e. kind_of e ≡ OutOfMemory) → FailsBy kinds r
-memory_fails kinds (Ok value) none memory = none
-memory_fails kinds (Err e) none memory = inl memory
-
--- what holds of an error holds where that is passed on
-pub passed_on : {T E : Type 0} (P : T → Type 0) (Q : E → Type 0) (e : E) (r : Result T E) → Q e → IsErrAnd r (λ f. f ≡ e) → MatchResult r P Q
-passed_on P Q e (Ok value) has is = absurd is
-passed_on P Q e (Err f) has is = rw is has
-
--- what holds of a value, and what holds of an error
-pub joined : {T E : Type 0} (P : T → Type 0) (Q : E → Type 0) (r : Result T E) → IfOk r P → IfErr r Q → MatchResult r P Q
-joined P Q (Ok value) ok err = ok
-joined P Q (Err e) ok err = err
-
--- the matches name the subcommand that the command line finds
-pub found_by : (line : App) (words : List Text) (matches : ArgMatches) → line ≡ command_line → HasMatchesOf line words matches
-    → subcommand_rows_of matches ≡ subcommand_of command_line words
-unfolding clap_on_literals
-found_by line words matches is has = ((rw is at has) refl).1
 
 -- the matches have the text that the rows have
 pub text_given : (found : Found) (id text : List ℕ) → one_of id (rows_of found) ≡ Some text → one_text found id ≡ Some text

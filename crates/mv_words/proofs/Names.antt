@@ -2,7 +2,7 @@
 -- Elsewhere such a file is called Words; here that is the name of a module.
 unfoldable pub use Rattle.clap.proofs.OnLiterals.{clap_on_literals}
 pub use Rattle.clap.specs.Lexer.{strip_byte, usize_max}
-pub use Rattle.clap.specs.Words.{App, FailsBy, HasMatchesOf, ReadsOne, all_of, fault_of, is_simple_and_free, matched_of, new_app, one_of, one_text, raw_values, rows_of, subcommand_of, subcommand_rows_of, with_rule}
+pub use Rattle.clap.specs.Words.{App, FailsBy, ReadsOne, all_of, fault_of, is_simple_and_free, matched_of, new_app, one_of, one_text, raw_values, rows_of, with_rule}
 pub use Rattle.clap.specs.declared.builder.value_parser.ValueParser.TheVariants.{String, Unsigned}
 pub use Rattle.mv_words.specs.Words.{ExplainAsks, HasNoMinus, OptionAsks, WritesTurns, code_rule, command_line, flag_rule, turns_rule}
 pub use Rattle.std.proofs.Common.{List, None, Result, Some, [], ap, append-nil, append_assoc, ap₂, arith, codes, false, fold, inl, inr, length, option_map, refl, sym, true, ℕ, ◌++◌, ◌<◌, ◌^◌, ◌∙◌, ◌∷◌, ◌≡◌}

@@ -1,6 +1,6 @@
 //! What the words of the command line ask for.
 
-ghost use Rattle.std.specs.Prelude.{◌≡◌, ℕ, List, false, true, MatchResult, IfOk, IfErr, Some, map, codes, string_bytes};
+ghost use Rattle.std.specs.Prelude.{◌≡◌, ℕ, List, false, true, MatchResult, IfOk, Some, map, codes, string_bytes};
 ghost use Rattle.clap.specs.Words.{all_of, fault_of, FailsBy, found_of, one_of, Row, rows_of, subcommand_rows_of};
 ghost use Rattle.clap.specs.Values.{kind_of};
 ghost use Rattle.clap.specs.declared.error.kind.ErrorKind.TheVariants.{OutOfMemory};
@@ -9,7 +9,7 @@ ghost use Rattle.mv_words.specs.declared.task.Task.{Task as Asked};
 
 use crate::words::command_line;
 use clap::{ArgMatches, Error};
-use std::alloc::Global;
+use std::alloc::{AllocError, Global};
 use std::marker::Model;
 
 /// What the words ask for.
@@ -72,15 +72,14 @@ pub fn task_of<'a>(alloc: Global, words: &'a [String]) -> Result<Option<Task<'a>
     ensures taken { FailsBy (fault_of command_line (map string_bytes words.now)) result }
 {
     let matches = command_line(alloc)?.try_get_matches_from(words)?;
-    task_found(alloc, &matches)
+    Ok(task_found(alloc, &matches)?)
 }
 
 /// The task of the subcommand that was found.
-fn task_found<'a>(alloc: Global, matches: &ArgMatches<'a>) -> Result<Option<Task<'a>>, Error>
-    ensures task { (asked : Asked) (name : List ℕ) (rows : List Row)
+fn task_found<'a>(alloc: Global, matches: &ArgMatches<'a>) -> Result<Option<Task<'a>>, AllocError>
+    ensures { (asked : Asked) (name : List ℕ) (rows : List Row)
         → subcommand_rows_of matches.now ≡ Some (name, rows) → IsFor asked name rows
         → IfOk result (λ task. task ≡ Some asked) }
-    ensures memory { IfErr result (λ error. kind_of error ≡ OutOfMemory) }
 {
     let Some((name, given)) = matches.subcommand() else {
         return Ok(None);
@@ -121,10 +120,9 @@ fn work_task<'a>(given: &ArgMatches<'_>) -> Option<Task<'a>>
 
 /// The task of `explain`: none without a word.
 #[tactic(auto, using(crate::proofs::AskLemmas::texts_given))]
-fn explain_task<'a>(alloc: Global, given: &ArgMatches<'a>) -> Result<Option<Task<'a>>, Error>
-    ensures task { (words : List (List ℕ)) → all_of (codes "code") (rows_of (found_of given.now)) ≡ Some words
+fn explain_task<'a>(alloc: Global, given: &ArgMatches<'a>) -> Result<Option<Task<'a>>, AllocError>
+    ensures { (words : List (List ℕ)) → all_of (codes "code") (rows_of (found_of given.now)) ≡ Some words
         → IfOk result (λ task. task ≡ Some (Task.Explain words)) }
-    ensures memory { IfErr result (λ error. kind_of error ≡ OutOfMemory) }
 {
     let Some(words) = given.get_strs("code") else {
         return Ok(None);

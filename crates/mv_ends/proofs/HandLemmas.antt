@@ -1,9 +1,7 @@
 -- What left a ring, and the last of it that is in hand.
-use Rattle.mv_ends.proofs.Words.{◌≡◌, ◌++◌, ◌∷◌, ◌∙◌, ℕ, List, [], length, drop, ap, arith, length-append, option_to_list, None, Some, received, taken_by, take-append-drop, nat_tests, IsPrefix}
+use Rattle.mv_ends.proofs.Words.{◌≡◌, ◌++◌, ◌∷◌, ◌∙◌, ℕ, List, [], length, drop, ap, arith, length-append, option_to_list, None, Some, received, taken_by, take-append-drop, nat_tests, IsPrefix, append_assoc, drop-length, take-append_seam, take-length}
 use Rattle.mv_ends.specs.declared.inlet.Inlet.{Inlet}
 use Rattle.std.specs.Prelude.{◌-◌}
-use Rattle.std.proofs.Common.{append_assoc}
-use Rattle.std.proofs.Math.Seq.{drop-length, take-append_seam, take-length}
 
 less_none : (n : ℕ) → n - 0 ≡ n
 less_none n = omega arith

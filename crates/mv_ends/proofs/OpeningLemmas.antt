@@ -1,7 +1,5 @@
 -- Lists of ends that are opened together.
-use Rattle.mv_ends.proofs.Words.{◌≡◌, ◌∙◌, ◌<◌, ◌+◌, ℕ, List, [], ◌∷◌, ◌++◌, length, sym, arith, IsSquare, common_steps, nat_tests, Bounds, Global, Vec, sent, received, IsPair, producer_capacity, consumer_capacity, Message, Frame, Inflow, new_hub, new_site, opening, HubEnd, HubSeat, RepoEnd, Inlet, Outlet, All, AreEmpty, ap, subst, refl, map, take, zero, suc, get_or, ring_put, ring_taken, taken_by, each_row, inflow_of, table_of, repo_seat, IsSeatOf, AreEnds, AreOpened, AreLinks, opened_seat, state_of, map-append, length-map}
-use Rattle.mv_ends.specs.Rings.{Ring}
-use Rattle.mv_ends.specs.RepoEnd.{RepoSeat}
+use Rattle.mv_ends.proofs.Words.{◌≡◌, ◌∙◌, ◌<◌, ◌+◌, ℕ, List, [], ◌∷◌, ◌++◌, length, sym, arith, IsSquare, common_steps, nat_tests, Bounds, Global, Vec, sent, received, IsPair, producer_capacity, consumer_capacity, Message, Frame, Inflow, new_hub, new_site, opening, HubEnd, HubSeat, RepoEnd, Inlet, Outlet, All, AreEmpty, ap, subst, refl, map, take, zero, suc, get_or, ring_put, ring_taken, taken_by, each_row, inflow_of, table_of, repo_seat, IsSeatOf, AreEnds, AreOpened, AreLinks, opened_seat, state_of, map-append, length-map, Ring, RepoSeat}
 use Rattle.std.proofs.Math.ListN.{get_or-append}
 use Rattle.std.proofs.lemmas.List.FromFn.{map-range_with_len_more}
 

@@ -1,10 +1,7 @@
 -- Lemmas on the report.
-use Rattle.mv_ends.proofs.Words.{IfOk, List, OnOk, Result, [], ap, append-nil, arith, codes, decimal, false, filter, flat_map, head_line, in_ten_places, is_closing, length, party_line, range_with_len, refl, repeat, replicate, report_text, suc, zero, ℕ, ◌++◌, ◌+◌, ◌-◌, ◌^◌, ◌∷◌, ◌≡◌}
-use Rattle.std.proofs.lemmas.Bool.Decides.{nat_tests}
+use Rattle.mv_ends.proofs.Words.{IfOk, List, OnOk, Result, [], ap, append-nil, arith, codes, decimal, false, filter, flat_map, head_line, in_ten_places, is_closing, length, party_line, range_with_len, refl, repeat, replicate, report_text, suc, zero, ℕ, ◌++◌, ◌+◌, ◌-◌, ◌^◌, ◌∷◌, ◌≡◌, nat_tests, flat_map_more, range-append}
 use Rattle.std.specs.Fmt.{padded_integral, format_spec, char_count}
 use Rattle.std.proofs.lemmas.Str.{encode_ascii}
-use Rattle.std.proofs.lemmas.List.{flat_map_more}
-use Rattle.mv_link.proofs.CallerLemmas.{range-append}
 use Rattle.mv_machine.specs.State.{State}
 
 -- blanks, one by one

@@ -1,6 +1,5 @@
 -- What ends of rings show as they are called one by one.
-use Rattle.mv_ends.proofs.Words.{◌≡◌, ◌<◌, ◌++◌, ◌∷◌, ◌∙◌, ℕ, List, [], length, map, set, get_or, sym, ap, subst, arith, nat_tests, get_or-map, length-map, length-set, map-set, get_or-set_same, get_or-set_other, Global, Vec, sent, cell, Frame, Outlet, each_row, with_item, with_frame}
-use Rattle.std.proofs.Math.Seq.{map-set_same}
+use Rattle.mv_ends.proofs.Words.{◌≡◌, ◌<◌, ◌++◌, ◌∷◌, ◌∙◌, ℕ, List, [], length, map, set, get_or, sym, ap, subst, arith, nat_tests, get_or-map, length-map, length-set, map-set, get_or-set_same, get_or-set_other, Global, Vec, sent, cell, Frame, Outlet, each_row, with_item, with_frame, map-set_same}
 
 -- there is one where something is shown
 pub has_place : {A B : Type 0} (f : A → B) (xs : List A) (shown : List B) (place : ℕ) → map f xs ≡ shown → place < length shown → place < length xs

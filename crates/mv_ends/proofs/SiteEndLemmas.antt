@@ -1,11 +1,8 @@
 -- What a repository's end keeps as it takes frames.
-use Rattle.mv_ends.proofs.Words.{◌≡◌, ◌<◌, ℕ, List, [], ◌∷◌, ◌++◌, length, arith, Bool, None, Some, ap, ◌∙◌, Reply, IsPassedAs, IsRepoOpened, KeepsOthers, false, true, is_some, known_free, Inflow, Outlet, IsTakenAs, eqb, append-nil, drop, refl, subst, sym, nat_tests, get_or-set_same, get_or-set_other, sent, Message, Item, Frame, accepted, one_more, items_from, SiteState, Taken, apply_fault, with_taken, Submitted, Refused, Memory, refusal_of, reply_to, RepoEnd, IsFront, with_item, stands_to, AreAccepted, is_full, IsRepoUnchanged, Submits, TakesFrame, Applies, Look, Refusal, eq-eqb}
+use Rattle.mv_ends.proofs.Words.{◌≡◌, ◌<◌, ℕ, List, [], ◌∷◌, ◌++◌, length, arith, Bool, None, Some, ap, ◌∙◌, Reply, IsPassedAs, IsRepoOpened, KeepsOthers, false, true, is_some, known_free, Inflow, Outlet, IsTakenAs, eqb, append-nil, drop, refl, subst, sym, nat_tests, get_or-set_same, get_or-set_other, sent, Message, Item, Frame, accepted, one_more, items_from, SiteState, Taken, apply_fault, with_taken, Submitted, Refused, Memory, refusal_of, reply_to, RepoEnd, IsFront, with_item, stands_to, AreAccepted, is_full, IsRepoUnchanged, Submits, TakesFrame, Applies, Look, Refusal, eq-eqb, drop-append_seam, answer_after, answer_fault}
 use Rattle.mv_link.specs.declared.incoming.Look.TheVariants as look
-use Rattle.mv_repository.specs.Verdict.{answer_after}
-use Rattle.mv_party.specs.Calls.{answer_fault}
 use Rattle.mv_party.specs.declared.fault.SiteFault.{SiteFault}
 use Rattle.mv_party.proofs.CallerLemmas.{items_from-push}
-use Rattle.std.proofs.Math.Seq.{drop-append_seam}
 
 -- one frame alone is at the front
 pub one_front : {T : Type 0} (inlets : Inflow T) (from : ℕ) (one other : T) → IsFront inlets from one → IsFront inlets from other → one ≡ other

@@ -1,12 +1,10 @@
 -- What stands in the fields of a line: its tokens, and what it asks.
-use Rattle.mv_format.proofs.Words.{All, AreMet, Contains, Data, IsUtf8, LineField, LineKind, List, Ok, Request, Some, Token, [], all_met, ap, arith, as_object, begin_object, begun_shorter, converted_some, end_object, field_name, get, key, keys_of, kind_at, known_only, length, lt-ltb, message_at, names_of, nat_tests, none_met, none_unknown, number_at, one_more_met, read_line, read_request, refl, request_at, shape_of, stands, subst, tokens, unsigned, whole, whole_begins, ℕ, ◌++◌, ◌<◌, ◌^◌, ◌∷◌, ◌≡◌, ◌≢◌}
+use Rattle.mv_format.proofs.Words.{All, AreMet, Contains, Data, IsUtf8, LineField, LineKind, List, Ok, Request, Some, Token, [], all_met, ap, arith, as_object, begin_object, begun_shorter, converted_some, end_object, field_name, get, key, keys_of, kind_at, known_only, length, lt-ltb, message_at, names_of, nat_tests, none_met, none_unknown, number_at, one_more_met, read_line, read_request, refl, request_at, shape_of, stands, subst, tokens, unsigned, whole, whole_begins, ℕ, ◌++◌, ◌<◌, ◌^◌, ◌∷◌, ◌≡◌, ◌≢◌, utf8_test, Asks, asked_by, BeginWithEntries, BeginWithPart, HasEntries, IsPart, TellsPart, entry, entry_name}
 use Rattle.mv_format.specs.declared.line_part.LineEntry.{LineEntry}
 use Rattle.json.specs.Json.{value}
 use Rattle.serde_json.specs.Read.{number_of}
 use Rattle.mv_json.specs.inside.Parts.{IsOneOf}
-use Rattle.mv_json.proofs.CallerLemmas.{utf8_test}
 use Rattle.mv_format.specs.declared.line_part.LinePart.{LinePart}
-use Rattle.mv_format.specs.inside.LineParts.{Asks, asked_by, BeginWithEntries, BeginWithPart, HasEntries, IsPart, TellsPart, entry, entry_name}
 use Rattle.json.specs.Token as token
 use Rattle.mv_format.specs.declared.field.LineField.TheVariants as fields
 use Rattle.mv_format.specs.declared.line_part.LinePart.TheVariants as parts

@@ -7,7 +7,7 @@ pub use Rattle.json.specs.Print.{print}
 pub use Rattle.json.specs.Token.{Token, begin_array, begin_object, end_array, end_object, key}
 pub use Rattle.mv_json.specs.Fields.{field_name, names_in}
 pub use Rattle.mv_json.specs.Limits.{most_markets, most_serials, most_text_bytes}
-pub use Rattle.mv_json.specs.Meanings.{AreLegal, AreSpelled, code, pack_standing, IsListOf, Making, Meaning, Values, exactly, first_fault, from_two, made_at, part_of, text_of}
+pub use Rattle.mv_json.specs.Meanings.{AreLegal, AreSpelled, IsListOf, Making, Meaning, Values, code, exactly, first_fault, from_two, made_at, pack_standing, part_of, text_of}
 pub use Rattle.mv_json.specs.Members.{HasOnly, first_unknown, keys_of}
 pub use Rattle.mv_json.specs.Messages.{message_version, read_bytes, value_in, value_of}
 unfoldable pub use Rattle.mv_json.specs.Messages.{read_message}
@@ -21,7 +21,7 @@ pub use Rattle.mv_json.specs.Tokens.{Puts, tokens_of}
 pub use Rattle.mv_json.specs.Values.{since_two, strings, whole}
 pub use Rattle.mv_json.specs.Words.{AllByRecursion, Field, Form, IsCode, Memory, Message, MessageFault, One, PackFault, Two, Unknown, Version, items_of, items_view, list_all, list_any, members_view, ok_or, option_map_or, read_code, view}
 pub use Rattle.mv_json.specs.declared.part.Entry.{Entry}
-pub use Rattle.mv_json.specs.inside.Parts.{HasMet, BeginWithPart, BeginWithTexts, HasEntries, IsPart, IsPlace, IsTaken, IsThere, deep_in, entry, entry_name}
+pub use Rattle.mv_json.specs.inside.Parts.{BeginWithPart, BeginWithTexts, HasEntries, HasMet, IsPart, IsPlace, IsTaken, IsThere, deep_in, entry, entry_name}
 unfoldable pub use Rattle.mv_json.specs.inside.Parts.{IsOneOf, there}
 pub use Rattle.mv_json.specs.inside.Shapes.{HasWords}
 pub use Rattle.mv_json.specs.inside.Tokens.{members_of, members_put, version_member}
@@ -29,7 +29,7 @@ unfoldable pub use Rattle.mv_json.specs.inside.Tokens.{PutsValue}
 pub use Rattle.mv_message.specs.declared.found.Found.{Found}
 pub use Rattle.mv_message.specs.declared.found.Found.TheVariants.{Absent, Present}
 pub use Rattle.mv_message.specs.declared.standing.Standing.{Standing}
-pub use Rattle.mv_pack.proofs.CallerLemmas.{read_expiry_is_expiry, read_expiry_text, read_gtin_is_gtin, read_gtin_of}
+pub use Rattle.mv_pack.proofs.CallerLemmas.{read_code_is_code, read_code_of, read_expiry_is_expiry, read_expiry_text, read_gtin_is_gtin, read_gtin_of}
 pub use Rattle.mv_pack.specs.Market.{IsMarket, read_market}
 pub use Rattle.mv_pack.specs.declared.key.PackKey.{PackKey}
 pub use Rattle.serde_json.proofs.Texts.{print-outline}
@@ -41,7 +41,7 @@ pub use Rattle.serde_json.specs.declared.value.Value.{Value}
 pub use Rattle.std.proofs.Common.{All, Bool, Contains, Err, IfSome, IsUtf8, List, None, Ok, Option, Result, Some, String, [], add-one, ap, append-nil, append_assoc, arith, bytes_eq, cond, drop, drop-cons, false, find, get_or, is_some, length, map, max, not, option_map, refl, rules, set, string_bytes, subst, suc, sym, take, true, vec_capacity, vec_len, ℕ, ◌&&◌, ◌*◌, ◌++◌, ◌+◌, ◌-◌, ◌<◌, ◌^◌, ◌∙◌, ◌∷◌, ◌≡◌, ◌≢◌, ◌≤◌}
 pub use Rattle.std.proofs.lemmas.List.{get_or-map, length-map, map-append, take_all}
 pub use Rattle.std.proofs.lemmas.List.Elements.{All-contains, All-map, All-push, All-set, Contains-append_left, Contains-push}
-pub use Rattle.std.proofs.lemmas.Result.{err_from_is_err_and}
+pub use Rattle.std.proofs.lemmas.Result.{err_from_is_err_and, on_ok_weaker}
 pub use Rattle.std.proofs.lemmas.Str.{IsUtf8-string_bytes}
 unfoldable pub use Rattle.std.specs.List.Sorted.{IsStrictlySortedBy}
 pub use Rattle.std.specs.Ordering.{is_eq, is_lt, match_ordering, nat_cmp}

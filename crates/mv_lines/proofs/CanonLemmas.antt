@@ -1,12 +1,7 @@
 -- The replies to messages are their canonical texts, one for each line.
-use Rattle.std.proofs.Common.{◌≡◌, ℕ, List, [], ◌∷◌, None, Some, IfSome, refl, ap, map}
-use Rattle.std.specs.declared.option.Option.{Option}
+use Rattle.mv_lines.proofs.Words.{Appends, AreReplies, IfSome, Line, List, None, Option, Served, Some, [], ap, lines_from, map, pieces, refl, said_texts, ℕ, ◌∷◌, ◌≡◌}
 use Rattle.std.specs.Prelude.{⊤}
-use Rattle.std.specs.Io.KnownBytes.{Appends}
 use Rattle.mv_lines.specs.Canon.{IsCanon, canon_text, canon_of}
-use Rattle.mv_engine.specs.Lines.{Line, lines_from, pieces}
-use Rattle.mv_engine.specs.Replies.{AreReplies, said_texts}
-use Rattle.mv_engine.specs.Served.{Served}
 
 -- each text is that to the line at its place
 texts_are : (before : ⊤) (lines : List Line) (texts : List (Option (List ℕ))) (after : ⊤) → AreReplies IsCanon before lines texts after

@@ -1,7 +1,6 @@
 -- What is written of an event.
-use Rattle.mv_show.proofs.Words.{◌≡◌, ℕ, List, length, subst, refl, inr, IfOk, IfErr, Bool, option_map, Some, Result, Ok, Err, arith, nat_tests, Message, Entry, line_at, GotNoReply, Readied, said, Open, IsTaken, Answered, Event, event_of, last_of, routed, routing, event_text, IsEvent, Says, Tells}
+use Rattle.mv_show.proofs.Words.{◌≡◌, ℕ, List, length, subst, refl, inr, IfOk, IfErr, Bool, option_map, Some, Result, Ok, Err, arith, nat_tests, Message, Entry, line_at, GotNoReply, Readied, said, Open, IsTaken, Answered, Event, event_of, last_of, routed, routing, event_text, IsEvent, Says, Tells, event_value}
 use Rattle.mv_hub.specs.declared.entry.Entry.TheVariants as entries
-use Rattle.mv_show.specs.EventValues.{event_value}
 
 -- what was said of a line's event is what may be written to the line
 pub event_answers : {E : Type 0} (r : Result Bool E) (old new : List ℕ) (line : ℕ) (before : Open) (bytes : List ℕ) (answered : Answered) (after : Open)

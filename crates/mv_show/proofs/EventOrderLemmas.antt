@@ -1,20 +1,10 @@
 -- The keys of events ascend.
-use Rattle.mv_show.proofs.Words.{ℕ, Item, List, None, Option, Some, [], applied, map, refl, routed, rules, ◌∷◌}
+use Rattle.mv_show.proofs.Words.{ℕ, Item, List, None, Option, Some, [], applied, map, refl, routed, rules, ◌∷◌, applied_fields, ItemsKeysAscend, array, object, ordered, wholes_ascend, IsOrdered, members_where, Carried, Receipt, Effect, decided, opened, submitted, verified, EventsAreOrdered}
 use Rattle.mv_json.proofs.CallerLemmas.{keys_ascend, rises, texts_ascend}
-use Rattle.mv_json.specs.Keys.{ItemsKeysAscend}
 use Rattle.mv_json.specs.Values.{strings}
 use Rattle.mv_json.specs.Words.{items_of}
-use Rattle.serde_json.specs.Data.{array, object}
-use Rattle.mv_format.proofs.CallerLemmas.{ordered, wholes_ascend}
-use Rattle.mv_format.specs.KeyOrder.{IsOrdered}
-use Rattle.mv_format.specs.Writing.{members_where}
-use Rattle.mv_link.specs.declared.item.Item.TheVariants.{Carried, Receipt}
-use Rattle.mv_repository.specs.declared.effect.Effect.{Effect}
 use Rattle.mv_repository.specs.declared.effect.Effect.TheVariants.{Uploaded}
 use Rattle.mv_repository.specs.declared.verdict.Verdict.TheVariants.{Authentic, NotAuthentic}
-use Rattle.mv_show.specs.Events.{decided, opened, submitted, verified}
-use Rattle.mv_show.specs.EventValues.{applied_fields}
-use Rattle.mv_show.specs.TrailLaws.{EventsAreOrdered}
 
 -- there is no object in lists of markets
 markets_ascend : (lists : List (List (List ℕ))) → ItemsKeysAscend (items_of (map (λ markets. array (strings markets)) lists))

@@ -1,7 +1,5 @@
 -- The text of lines that are gathered.
-use Rattle.std.proofs.lemmas.Grind.{flat_map-append}
-use Rattle.std.proofs.lemmas.List.{map-append}
-use Rattle.mv_show.proofs.Words.{List, Row, [], append-nil, append_assoc, arith, flat_map, lines_text, range_with_len, refl, rules, suc, zero, ℕ, ◌++◌, ◌+◌, ◌∷◌, ◌≡◌}
+use Rattle.mv_show.proofs.Words.{List, Row, [], append-nil, append_assoc, arith, flat_map, lines_text, range_with_len, refl, rules, suc, zero, ℕ, ◌++◌, ◌+◌, ◌∷◌, ◌≡◌, flat_map-append, map-append}
 
 -- the text of some lines, and of others behind them
 pub texts_more : (front behind : List Row) → lines_text (front ++ behind) ≡ lines_text front ++ lines_text behind

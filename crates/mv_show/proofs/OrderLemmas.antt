@@ -1,17 +1,10 @@
 -- The keys of shown lines ascend.
-use Rattle.mv_show.proofs.Words.{ℕ, List, None, Option, Some, refl, rules}
+use Rattle.mv_show.proofs.Words.{ℕ, List, None, Option, Some, refl, rules, KeysAscend, null, ordered, wholes_ascend, IsOrdered, change_value, national_value, Message, RowsAreOrdered}
 use Rattle.std.specs.Option.{option_map_or}
 use Rattle.std.specs.Prelude.{option_map}
 use Rattle.mv_json.proofs.CallerLemmas.{keys_ascend, rises}
-use Rattle.mv_json.specs.Keys.{KeysAscend}
 use Rattle.mv_json.specs.Messages.{value_of}
-use Rattle.serde_json.specs.Data.{null}
-use Rattle.mv_message.specs.declared.message.Message.{Message}
-use Rattle.mv_format.proofs.CallerLemmas.{ordered, wholes_ascend}
-use Rattle.mv_format.specs.KeyOrder.{IsOrdered}
-use Rattle.mv_format.specs.Writing.{change_value, national_value}
 use Rattle.mv_repository.specs.declared.held.Change.{Change}
-use Rattle.mv_show.specs.Shown.{RowsAreOrdered}
 
 -- where there is a message, the keys of its value ascend
 message_ascends : {A : Type 0} (f : A → Message) (given : Option A) → KeysAscend (option_map_or value_of (option_map f given) null)

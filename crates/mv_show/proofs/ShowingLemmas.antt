@@ -1,12 +1,8 @@
 -- Lemmas on an input that was taken, and on what was shown of it.
-use Rattle.std.proofs.Common.{Err, IfErr, Ok, Result, inr}
-use Rattle.mv_show.proofs.Words.{Appends-nil, Consumes, IfSome, List, None, Option, Some, [], arith, inl, refl, rules, ℕ, ◌∷◌, ◌≡◌, ◌≢◌}
+use Rattle.mv_show.proofs.Words.{Appends-nil, Consumes, IfSome, List, None, Option, Some, [], arith, inl, refl, rules, ℕ, ◌∷◌, ◌≡◌, ◌≢◌, Err, IfErr, Ok, Result, inr, Line, pieces, whole_from, AreReplies, said_texts, Open}
 use Rattle.mv_engine.specs.declared.fault.ServeFault.{ServeFault}
 use Rattle.mv_engine.specs.declared.fault.ServeFault.TheVariants.{Read, Write, Memory}
-use Rattle.mv_engine.specs.Lines.{Line, pieces, whole_from}
-use Rattle.mv_engine.specs.Replies.{AreReplies, said_texts}
 use Rattle.mv_engine.specs.Served.{AreAnswered, Served, StoppedAt, Ended}
-use Rattle.mv_lines.specs.Sessions.{Open}
 use Rattle.mv_show.specs.Showing.{IsPassed, Unshown}
 
 -- lines to which nothing is written have no text

@@ -1,7 +1,5 @@
 -- The record, each log and what each party submitted grow by what events tell.
-use Rattle.mv_show.proofs.Words.{Event, Item, List, Message, None, Option, SiteState, Some, State, [], answer_after, answer_number, ap, append-nil, applied_change, applied_told, arith, asked_change, closed_change, common_steps, dropped, elements, entry_from, entry_told, enumerate_from, false, get_or, get_or-set_other, get_or-set_same, if◌then◌else◌, is_party, is_query_or_answer, last_of, length, length-append, log_of, map, nat_tests, new_site, nothing, option_map, option_to_list, refl, relayed, repeated, routed_change, rules, set, site_of, slice_get, slice_get-behind, submission_told, submissions_of, submitted_change, unless_answer, with_site, ℕ, ◌++◌, ◌+◌, ◌<◌, ◌==◌, ◌∙◌, ◌∷◌, ◌≡◌}
-use Rattle.std.proofs.lemmas.List.{length-map, map-append, set_past}
-use Rattle.mv_repository.specs.declared.effect.Effect.{Effect}
+use Rattle.mv_show.proofs.Words.{Event, Item, List, Message, None, Option, SiteState, Some, State, [], answer_after, answer_number, ap, append-nil, applied_change, applied_told, arith, asked_change, closed_change, common_steps, dropped, elements, entry_from, entry_told, enumerate_from, false, get_or, get_or-set_other, get_or-set_same, if◌then◌else◌, is_party, is_query_or_answer, last_of, length, length-append, log_of, map, nat_tests, new_site, nothing, option_map, option_to_list, refl, relayed, repeated, routed_change, rules, set, site_of, slice_get, slice_get-behind, submission_told, submissions_of, submitted_change, unless_answer, with_site, ℕ, ◌++◌, ◌+◌, ◌<◌, ◌==◌, ◌∙◌, ◌∷◌, ◌≡◌, Effect, length-map, map-append, set_past}
 use Rattle.mv_repository.specs.declared.entry.LogEntry.{LogEntry}
 use Rattle.mv_machine.specs.Lawful.{IsWellFormed}
 use Rattle.mv_show.specs.Events as events

@@ -1,18 +1,16 @@
 -- Lemmas on what `work` writes.
-use Rattle.std.proofs.Common.{◌≡◌, ℕ, List, ◌++◌, refl, ap, sym, ◌∙◌, subst, true≢false, ◌⊎◌, inl, inr, string_bytes, ◌↔◌, IsTrue, IfOk, IfErr, IfSome, IsOk, Option, Some, None, Result, Ok, Err, Bool, true, false}
 use Rattle.mv_machine.specs.State.{State}
 use Rattle.mv_workers.specs.declared.plan.Plan.{Plan}
 use Rattle.mv_workers.specs.declared.plan.WorkFault.{WorkFault}
 use Rattle.mv_workers.specs.declared.plan.WorkFault.TheVariants as faults
 use Rattle.mv_workers.specs.Plans.{IsSound, KeepsPlan, IsComplete, Faults}
 use Rattle.mv_tool.specs.declared.working.Output.{Output}
-use Rattle.mv_tool.proofs.Words.{Appends, Keeps, Memory, ServeFault, Start, output_of, report_of}
+use Rattle.mv_tool.proofs.Words.{Appends, Keeps, Memory, ServeFault, Start, output_of, report_of, ◌≡◌, ℕ, List, ◌++◌, refl, ap, sym, ◌∙◌, subst, true≢false, ◌⊎◌, inl, inr, string_bytes, ◌↔◌, IsTrue, IfOk, IfErr, IfSome, IsOk, Option, Some, None, Result, Ok, Err, Bool, true, false, end_line, parts_of, IsOutput, Worked, Failed}
 use Rattle.mv_plan.specs.Drafts.{Parts, CanRun}
 use Rattle.mv_ends.specs.Report.{report_text}
 use Rattle.mv_plan.specs.Planning.{Planned}
 use Rattle.mv_plan.specs.Reading.{IsRead}
 use Rattle.mv_engine.specs.Output.{WrotePart}
-use Rattle.mv_tool.specs.Working.{end_line, parts_of, IsOutput, Worked, Failed}
 
 -- a plan of parts that can be run can be run
 pub sound_of : (plan : Plan) (parts : Parts) → parts_of plan ≡ parts → CanRun parts → IsSound plan

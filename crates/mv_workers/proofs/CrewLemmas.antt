@@ -1,7 +1,6 @@
 -- What comes back of a crew, desk by desk.
-use Rattle.mv_workers.proofs.Words.{◌≡◌, ◌≤◌, ℕ, Bool, List, [], ◌∷◌, ◌++◌, length, map, ap, arith, ◌&&◌, ◌==◌, nat_tests, map-append, same_from_push, RepoEnd, AreSameRepos, own_among, own_of, IsFurther, Handle, HasTurns, end_of, work_of, AreBegun}
+use Rattle.mv_workers.proofs.Words.{◌≡◌, ◌≤◌, ℕ, Bool, List, [], ◌∷◌, ◌++◌, length, map, ap, arith, ◌&&◌, ◌==◌, nat_tests, map-append, same_from_push, RepoEnd, AreSameRepos, own_among, own_of, IsFurther, Handle, HasTurns, end_of, work_of, AreBegun, Desk}
 use Rattle.std.proofs.lemmas.Slice.Zip.{all_zipped_more}
-use Rattle.mv_workers.specs.declared.desk.Desk.{Desk}
 use Rattle.mv_workers.proofs.WorkLemmas.{begun_of}
 
 -- one more worker gave its desk back

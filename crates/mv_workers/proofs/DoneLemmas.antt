@@ -1,7 +1,5 @@
 -- Lengths decide what is carried out.
-use Rattle.std.proofs.lemmas.Grind.{common_steps}
-use Rattle.mv_workers.proofs.Words.{IsLawful, IsPrefix, List, State, append-nil, arith, items_from, length, length-append, link_items, log_of, nat_tests, submissions_of, ℕ, ◌<◌, ◌≡◌}
-use Rattle.mv_hub.specs.Record.{routed_from}
+use Rattle.mv_workers.proofs.Words.{IsLawful, IsPrefix, List, State, append-nil, arith, items_from, length, length-append, link_items, log_of, nat_tests, submissions_of, ℕ, ◌<◌, ◌≡◌, common_steps, routed_from}
 
 -- a front that is as long as the whole is the whole
 pub front-whole : {A : Type 0} (front whole : List A) → IsPrefix front whole → length front ≡ length whole → front ≡ whole

@@ -1,9 +1,7 @@
 -- What a plan is beside what its run leaves.
-use Rattle.mv_workers.proofs.Words.{AllUnused, AllZip-get_or, AreBegun, Bool, HubSeat, IsBack, IsBegun, KeepsSubmissions, IsCarried, IsComplete, IsCrewOf, IsFalse, IsLawful, IsSound, IsTrue, KeepsPlan, List, RepoEnd, SiteState, State, [], ap, arith, ext_get_or, false, get_or, get_or-map, length, length-map, map, nat_tests, new_site, opening, own_among, own_of, refl, repo_seat, site_of, submissions_of, subst, suc, sym, true, zero, ℕ, ◌&&◌, ◌<◌, ◌↔◌, ◌∙◌, ◌∷◌, ◌≡◌}
+use Rattle.mv_workers.proofs.Words.{AllUnused, AllZip-get_or, AreBegun, Bool, HubSeat, IsBack, IsBegun, KeepsSubmissions, IsCarried, IsComplete, IsCrewOf, IsFalse, IsLawful, IsSound, IsTrue, KeepsPlan, List, RepoEnd, SiteState, State, [], ap, arith, ext_get_or, false, get_or, get_or-map, length, length-map, map, nat_tests, new_site, opening, own_among, own_of, refl, repo_seat, site_of, submissions_of, subst, suc, sym, true, zero, ℕ, ◌&&◌, ◌<◌, ◌↔◌, ◌∙◌, ◌∷◌, ◌≡◌, HubEnd, AreEnds, sites_of, state_of}
 use Rattle.mv_machine.specs.Limits.{Bounds}
 use Rattle.mv_machine.proofs.CallerLemmas.{opening-site}
-use Rattle.mv_ends.specs.declared.hub_end.HubEnd.{HubEnd}
-use Rattle.mv_ends.specs.Whole.{AreEnds, sites_of, state_of}
 use Rattle.mv_workers.specs.declared.plan.Plan.{Plan}
 use Rattle.mv_workers.specs.declared.crew.Crew.{Crew}
 use Rattle.mv_workers.specs.declared.crew.CrewEnds.{CrewEnds}

@@ -1,5 +1,4 @@
-use Rattle.mv_tool.proofs.Words.{IfOk-weaker, Ok, Some, arith, string_bytes, subst}
-use Rattle.mv_tool.specs.Working.{IsOutput}
+use Rattle.mv_tool.proofs.Words.{IfOk-weaker, Ok, Some, arith, string_bytes, subst, IsOutput}
 use Rattle.mv_tool.proofs.WorkLemmas.{run_reported, run_fails}
 use Rattle.mv_tool.proofs.working.carry_out.Goals as goal
 

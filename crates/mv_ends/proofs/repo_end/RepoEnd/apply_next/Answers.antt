@@ -1,6 +1,5 @@
 -- The party takes the frame in hand, and what it answers is on its uplink.
-use Rattle.mv_ends.proofs.Words.{◌≡◌, ◌∙◌, ◌++◌, refl, sym, ap, rules, option_to_list, sent, SiteState, reply_to, with_item}
-use Rattle.mv_repository.specs.Verdict.{answer_after}
+use Rattle.mv_ends.proofs.Words.{◌≡◌, ◌∙◌, ◌++◌, refl, sym, ap, rules, option_to_list, sent, SiteState, reply_to, with_item, answer_after}
 use Rattle.mv_link.specs.declared.incoming.Look.TheVariants.{Next}
 use Rattle.mv_ends.proofs.SiteEndLemmas.{accepted_taken, more_submitted, taken_freely}
 use Rattle.mv_ends.proofs.repo_end.RepoEnd.apply_next.Goals as goal

@@ -1,5 +1,4 @@
-use Rattle.mv_link.specs.declared.item.Item.TheVariants.{Receipt, Carried}
-use Rattle.mv_show.proofs.Words.{entry_from, applied}
+use Rattle.mv_show.proofs.Words.{entry_from, applied, Receipt, Carried}
 use Rattle.mv_show.proofs.EventLemmas.{says_tells}
 use Rattle.mv_show.proofs.event.Teller.tell_applied.Goals as goal
 

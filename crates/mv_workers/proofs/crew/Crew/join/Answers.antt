@@ -1,6 +1,4 @@
-use Rattle.std.proofs.Common.{◌∙◌, [], ◌∷◌, ◌++◌, length, append_assoc, ap, refl, subst, sym, arith, rules}
-use Rattle.std.proofs.lemmas.List.Elements.{All-head, All-tail}
-use Rattle.mv_workers.proofs.Words.{All, HasTurns}
+use Rattle.mv_workers.proofs.Words.{All, HasTurns, ◌∙◌, [], ◌∷◌, ◌++◌, length, append_assoc, ap, refl, subst, sym, arith, rules, All-head, All-tail}
 use Rattle.mv_workers.proofs.CrewLemmas.{begun_more}
 use Rattle.mv_workers.proofs.crew.Crew.join.Goals as goal
 

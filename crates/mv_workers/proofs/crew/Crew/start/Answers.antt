@@ -1,8 +1,4 @@
-use Rattle.std.proofs.Common.{[], arith, rules, subst, sym}
-use Rattle.std.proofs.lemmas.Grind.{common_steps}
-use Rattle.std.proofs.lemmas.List.Elements.{All-append, All-cons, All-nil}
-use Rattle.mv_workers.specs.declared.desk.Desk.{Desk}
-use Rattle.mv_workers.proofs.Words.{HasTurns, IsUnused}
+use Rattle.mv_workers.proofs.Words.{HasTurns, IsUnused, Desk, common_steps, [], arith, rules, subst, sym, All-append, All-cons, All-nil}
 use Rattle.mv_workers.proofs.crew.Crew.start.Goals as goal
 
 -- one more worker was started

@@ -1,5 +1,6 @@
 -- What the tables are after one more entry, by its form.
-use Rattle.mv_repository.proofs.Words.{◌≡◌, ◌+◌, ℕ, List, bytes_eq, false, length, subst, sym, get_or, take, true, Option, None, Some, Result, OnOk, OnErr, [], Item, Message, Master, Upload, Status, Recall, Withdraw, Product, Standing, CivilDate, BatchKey, PackKey, LogEntry, uploaded_in, uploaded_packs, is_master, AreMastersOf, ordered, AreShelfOf, ShelfParts, shelf_of, Stops, first_stops, no_entry, message_in, AreStopsOf, AreTablesOf, Tables, arith, nat_tests, common_steps}
+use Rattle.mv_repository.proofs.Words.{◌≡◌, ◌+◌, ℕ, List, bytes_eq, false, length, subst, sym, get_or, take, true, Option, None, Some, Result, OnOk, OnErr, [], Item, Message, Master, Upload, Status, Recall, Withdraw, Product, Standing, CivilDate, BatchKey, PackKey, LogEntry, uploaded_in, uploaded_packs, is_master, is_status_of, IsUploadOf, AreMastersOf, ordered, AreShelfOf, ShelfParts, shelf_of, Stops, first_stops, no_entry, message_in, AreStopsOf, AreTablesOf, Tables, arith, nat_tests, common_steps}
+use Rattle.mv_repository.proofs.KeptLemmas.{pack-self, text-self}
 use Rattle.mv_repository.proofs.ProductLemmas.{masters-noted}
 use Rattle.mv_repository.proofs.SerialLemmas.{AreSamePacks, IsShelved, serials-at, shelf-kept, shelves-follow}
 use Rattle.mv_repository.proofs.StopLemmas.{NoMaster}
@@ -31,6 +32,17 @@ pub other-noted : (item : Item) (m : Message) → message_in item ≡ Some m →
     → ((key : PackKey) (to : Standing) (user : List ℕ) (at : ℕ) → m ≡ Status key to user at → ⊥)
     → ((key : BatchKey) (at : ℕ) → m ≡ Recall key at → ⊥) → ((gtin : List ℕ) (at : ℕ) → m ≡ Withdraw gtin at → ⊥) → IsNoted item
 other-noted item m is a b c d e = grind (arith, nat_tests)
+
+-- an item by the message that it carries: a master, an upload of these packs, and a status of a pack
+pub master-in : (item : Item) (m : Message) (gtin : List ℕ) (product : Product) → Some m ≡ message_in item → m ≡ Master gtin product → is_master gtin item ≡ true
+master-in item m gtin product e is = grind (arith, nat_tests, text-self gtin)
+
+pub upload-in : (item : Item) (m : Message) (gtin batch : List ℕ) (expiry : CivilDate) (national : Option (List ℕ)) (named serials : List (List ℕ))
+    → Some m ≡ message_in item → m ≡ Upload gtin batch expiry national named → serials ≡ named → IsUploadOf item gtin serials
+upload-in item m gtin batch expiry national named serials e is same = grind (arith, nat_tests)
+
+pub status-in : (item : Item) (m : Message) (key : PackKey) (to : Standing) (user : List ℕ) (at : ℕ) → Some m ≡ message_in item → m ≡ Status key to user at → is_status_of key item ≡ true
+status-in item m key to user at e is = grind (arith, nat_tests, pack-self key)
 
 -- the same by the place of the newest entry
 module _ (whole : List LogEntry) (place : ℕ) (l : length whole ≡ place + 1) where

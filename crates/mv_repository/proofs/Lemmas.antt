@@ -3,7 +3,7 @@ pub use Rattle.mv_repository.proofs.Words.{AreAt, AreShelfOf, AreSlots, AreStops
 pub use Rattle.mv_repository.proofs.TrackLemmas.{IsCutFor, not_twice, parted, stays_at, put-ascend, put-known, put-late, put-unknown, status-form}
 pub use Rattle.mv_repository.proofs.KeptLemmas.{life_batch, text-self}
 pub use Rattle.mv_repository.proofs.TableLemmas.{log-length, log-split, longer}
-pub use Rattle.mv_repository.proofs.SerialLemmas.{IsShelved, listed_in, no-shelf-yet, serials-at, shelf-kept, shelf-seen, shelved-none, shelves-follow, upload-serials}
+pub use Rattle.mv_repository.proofs.SerialLemmas.{IsShelved, listed_in, no-shelf-yet, serials-at, shelf-kept, shelf-seen, shelf-written, shelved-none, shelves-follow, upload-serials}
 pub use Rattle.mv_repository.proofs.BlockLemmas.{covered-more, fold-cut, last-blocks, late-before, late-front, late-fold, pass-after, pass-behind, pass-front, renewed}
 pub use Rattle.mv_repository.proofs.TrackLemmas.{put-ascend, status-form}
 pub use Rattle.mv_repository.proofs.UploadLemmas.{ArePacksOf, batch-kept, batch-noted, status-others, upload-adds, upload-all, upload-form, upload-names}
@@ -14,7 +14,7 @@ pub use Rattle.mv_repository.proofs.SlotLemmas.{found-own, is-changed, none-chan
 pub use Rattle.mv_repository.proofs.CountedLemmas.{counted-whole, held-all, slots_in}
 pub use Rattle.mv_repository.proofs.PacksLemmas.{status-away, upload-away}
 pub use Rattle.mv_repository.proofs.StopLemmas.{recall-added, stop-away, stop-does, stop-form, stop-leaves, stop-passes, withdrawal-added}
-pub use Rattle.mv_repository.proofs.FormLemmas.{map_err, master-form, masters-at, named-at, none-noted, on_err, on_map, other-noted, same-at, shelves-at, stops-at, tables-follow, tables-noted}
+pub use Rattle.mv_repository.proofs.FormLemmas.{map_err, master-in, master-form, masters-at, named-at, none-noted, on_err, on_map, other-noted, same-at, shelves-at, status-in, stops-at, tables-follow, tables-noted, upload-in}
 pub use Rattle.mv_repository.proofs.ProductLemmas.{comes_late, masters-late-at, masters-latest-at, product_found}
 pub use Rattle.mv_repository.proofs.InquiriesLemmas.{answer_noted, inquiry_in, known_stays, receipt_noted, verdict_known}
 pub use Rattle.mv_repository.proofs.HistoryLemmas.{history-at, lent-places}

@@ -1,6 +1,6 @@
 -- The serial numbers of a product that a log names, after one more entry; and what is kept of all packs, where the shelf of one product is
 -- written.
-use Rattle.mv_repository.proofs.Words.{arith, nat_tests, ◌≡◌, ◌+◌, ◌∷◌, bytes_eq, ℕ, List, [], length, get_or, take, fold, sym, ◌∙◌, ap, subst, true, true≢false, cond, insert_key, Item, Carried, Status, pack_key, PackKey, LogEntry, AreShelfOf, AreSlots, ShelfParts, ShelfTable, Slot, shelf_by, IsPackOf, IsShelfOf, IsUploadOf, Life, life_of, is_status_of, no_entry, no_shelf, refl, IsDistinct, serials_in, serials_of, ◌||◌, Bool, false, same_text, HashSet, lookup, map, lists, is_in, not, option_map, shelf_of}
+use Rattle.mv_repository.proofs.Words.{arith, nat_tests, ◌≡◌, ◌+◌, ◌∷◌, bytes_eq, ℕ, List, [], length, get_or, take, fold, sym, ◌∙◌, ap, subst, true, true≢false, cond, insert_key, Item, Carried, Status, pack_key, PackKey, LogEntry, AreShelfOf, AreSlots, ShelfParts, ShelfTable, Slot, shelf_by, IsPackOf, IsShelfOf, IsUploadOf, Life, life_of, is_status_of, no_entry, no_shelf, refl, IsDistinct, serials_in, serials_of, ◌||◌, Bool, false, same_text, HashSet, lookup, map, lists, is_in, not, option_map, shelf_of, Some}
 use Rattle.mv_repository.proofs.KeptLemmas.{same_pack}
 use Rattle.mv_repository.proofs.SlotLemmas.{slots-longer}
 use Rattle.mv_repository.proofs.StoppedLemmas.{once-all}
@@ -60,6 +60,11 @@ shelf-kept whole place gtin parts same of =
 -- the product has this shelf, and each other product its own
 abbrev pub IsShelved : List (List ℕ × ShelfParts) → List (List ℕ × ShelfParts) → List ℕ → ShelfParts → Type 0
 IsShelved old new gtin shelf = (other : List ℕ) → shelf_of other new ≡ cond (bytes_eq gtin other) shelf (shelf_of other old)
+
+-- where its shelf is written under its code
+pub shelf-written : (old new left : List (List ℕ × ShelfParts)) (gtin : List ℕ) (shelf : ShelfParts)
+    → ((other : List ℕ) → lookup (bytes_eq other) new ≡ cond (bytes_eq gtin other) (Some shelf) (lookup (bytes_eq other) old)) → left ≡ new → IsShelved old left gtin shelf
+shelf-written old new left gtin shelf h e other = grind (arith, nat_tests)
 
 -- where it has none, and nothing is written
 pub shelved-none : (old new : List (List ℕ × ShelfParts)) (gtin : List ℕ) → new ≡ old → shelf_of gtin old ≡ no_shelf → IsShelved old new gtin no_shelf

@@ -1,23 +1,23 @@
 -- Each form of entry bears on one table; an upload and a status bear on the shelf of one product.
-use Rattle.mv_repository.proofs.Lemmas.{◌≡◌, IsShelved, rules, get_or, take, no_entry, arith, common_steps, none-noted, other-noted, master-form, masters-at, stops-at, same-at, shelves-at, named-at, tables-follow, tables-noted, refl, IsUploadOf, is_status_of, true, on_err, on_map, map_err, upload-away, upload-form, status-away, status-form, shelf-kept, subst, AreShelfOf, shelves-follow, log-split, named-longer, named-upload}
+use Rattle.mv_repository.proofs.Lemmas.{◌≡◌, IsShelved, rules, get_or, take, no_entry, arith, none-noted, other-noted, master-form, masters-at, stops-at, same-at, shelves-at, named-at, unwrap_or, ◌∙◌, master-in, shelf-written, upload-in, status-in, sym, tables-follow, tables-noted, refl, IsUploadOf, is_status_of, true, on_err, on_map, map_err, upload-away, upload-form, status-away, status-form, shelf-kept, subst, AreShelfOf, shelves-follow, log-split, named-longer, named-upload}
 use Rattle.mv_repository.proofs.tables.Tables.add.Goals as goal
 
 pub returns-in_ok-add_master-in-Master-clause-ok : goal.returns-in_ok-add_master-in-Master-clause-ok
 returns-in_ok-add_master-in-Master-clause-ok c =
-    let form = master-form c.in-Master.gtin (get_or c.args.log.now c.args.place no_entry).item (search rules) in
+    let form = master-form c.in-Master.gtin (get_or c.args.log.now c.args.place no_entry).item (master-in (get_or c.args.log.now c.args.place no_entry).item c.in-Some.message.now _ _ c.in-Some.ensures c.in-Master.is) in
     let same = same-at c.args.log.now c.args.place c.requires.last form.1 in
     record {
-      masters = search rules;
+      masters = c.in_ok-add_master-in-Master.ensures.ok;
       stops = stops-at c.args.log.now c.args.place c.requires.last c.args.self.now.stops form.1 c.requires.tables.stops;
       shelves = shelves-at c.args.log.now c.args.place c.requires.last c.args.self.now.shelves.entries form.0 same c.requires.tables.shelves;
       named = named-at c.args.log.now c.args.place c.requires.last c.args.self.now.named form.0.1 c.requires.tables.named;
     }
 
 pub add_upload-requires-clause-shelf : goal.add_upload-requires-clause-shelf
-add_upload-requires-clause-shelf c = subst (AreShelfOf (take c.args.place c.args.log.now) c.in-Upload.gtin) (search rules) (c.requires.tables.shelves c.in-Upload.gtin)
+add_upload-requires-clause-shelf c = subst (AreShelfOf (take c.args.place c.args.log.now) c.in-Upload.gtin) (sym (c.or_insert-shelf.ensures.value ∙ (λ i. unwrap_or (c.in_ok-shelf-in-Upload.ensures.value i) (c.new.ensures i)))) (c.requires.tables.shelves c.in-Upload.gtin)
 
 pub add_status-requires-clause-shelf : goal.add_status-requires-clause-shelf
-add_status-requires-clause-shelf c = subst (AreShelfOf (take c.args.place c.args.log.now) c.in-Status.key.gtin) (search rules) (c.requires.tables.shelves c.in-Status.key.gtin)
+add_status-requires-clause-shelf c = subst (AreShelfOf (take c.args.place c.args.log.now) c.in-Status.key.gtin) (sym (c.or_insert-shelf-in-Status.ensures.value ∙ (λ i. unwrap_or (c.in_ok-shelf-in-Status.ensures.value i) (c.new-in-Status.ensures i)))) (c.requires.tables.shelves c.in-Status.key.gtin)
 
 pub returns-in_err-effect-in-Upload-clause-err : goal.returns-in_err-effect-in-Upload-clause-err
 returns-in_err-effect-in-Upload-clause-err c =
@@ -26,17 +26,17 @@ returns-in_err-effect-in-Upload-clause-err c =
       masters = c.requires.tables.masters;
       stops = c.requires.tables.stops;
       named = c.requires.tables.named;
-      shelves = shelves-follow c.args.self.now.shelves.entries _ c.in-Upload.gtin c.add_upload.new.self (λ other. search (rules, (c.in_ok-shelf-in-Upload.ensures.update.0 c.add_upload.new.self).0 other))
+      shelves = shelves-follow c.args.self.now.shelves.entries _ c.in-Upload.gtin c.add_upload.new.self (shelf-written c.args.self.now.shelves.entries _ _ c.in-Upload.gtin c.add_upload.new.self (c.in_ok-shelf-in-Upload.ensures.update.0 c.add_upload.new.self).0 (search rules))
           before before c.requires.tables.shelves c.in_err-effect-in-Upload.ensures.err (λ other e parts h. h);
     })
 
 -- the entry is the upload
 uploaded : (c : goal.After-self-in-Upload-3-1) → IsUploadOf (get_or c.args.log.now c.args.place no_entry).item c.in-Upload.gtin c.as_slice-serials.result.now
-uploaded c = search rules
+uploaded c = upload-in (get_or c.args.log.now c.args.place no_entry).item c.in-Some.message.now _ _ _ _ _ _ c.in-Some.ensures c.in-Upload.is c.as_slice-serials.ensures
 
 pub returns-in_ok-effect-in-Upload-clause-ok : goal.returns-in_ok-effect-in-Upload-clause-ok
 returns-in_ok-effect-in-Upload-clause-ok c =
-    let looks : IsShelved c.args.self.now.shelves.entries c.self-in-Upload-2-1.given.0.entries c.in-Upload.gtin c.add_upload.new.self = λ other. grind (arith, common_steps, (c.in_ok-shelf-in-Upload.ensures.update.0 c.add_upload.new.self).0 other) in
+    let looks : IsShelved c.args.self.now.shelves.entries c.self-in-Upload-2-1.given.0.entries c.in-Upload.gtin c.add_upload.new.self = shelf-written c.args.self.now.shelves.entries _ _ c.in-Upload.gtin c.add_upload.new.self (c.in_ok-shelf-in-Upload.ensures.update.0 c.add_upload.new.self).0 (search rules) in
     let form = upload-form (get_or c.args.log.now c.args.place no_entry).item c.in-Upload.gtin c.as_slice-serials.result.now (uploaded c) in
     let more = named-longer (take c.args.place c.args.log.now) (get_or c.args.log.now c.args.place no_entry) c.args.log.now (log-split c.args.log.now c.args.place c.requires.last) in
     tables-follow c.args.log.now c.args.place c.requires.last c.args.self.now _ c.in-Upload.gtin c.add_upload.new.self form.2 c.requires.tables refl
@@ -46,14 +46,14 @@ returns-in_ok-effect-in-Upload-clause-ok c =
 
 -- the entry is the status
 own : (c : goal.After-self-in-Status-2-1) → is_status_of c.in-Status.key (get_or c.args.log.now c.args.place no_entry).item ≡ true
-own c = search rules
+own c = status-in (get_or c.args.log.now c.args.place no_entry).item c.in-Some.message.now _ _ _ _ c.in-Some.ensures c.in-Status.is
 
 pub returns-in_ok-shelf-in-Status-clause-ok : goal.returns-in_ok-shelf-in-Status-clause-ok
 returns-in_ok-shelf-in-Status-clause-ok c =
     on_map c.add_status.result c.add_status.ensures.ok (λ now. record {
       masters = masters-at c.args.log.now c.args.place c.requires.last c.args.self.now.masters.entries (status-form c.in-Status.key (get_or c.args.log.now c.args.place no_entry).item (own c)).2 c.requires.tables.masters;
       stops = stops-at c.args.log.now c.args.place c.requires.last c.args.self.now.stops (status-form c.in-Status.key (get_or c.args.log.now c.args.place no_entry).item (own c)).1 c.requires.tables.stops;
-      shelves = shelves-follow c.args.self.now.shelves.entries _ c.in-Status.key.gtin c.add_status.new.self (λ other. grind (arith, common_steps, (c.in_ok-shelf-in-Status.ensures.update.0 c.add_status.new.self).0 other))
+      shelves = shelves-follow c.args.self.now.shelves.entries _ c.in-Status.key.gtin c.add_status.new.self (shelf-written c.args.self.now.shelves.entries _ _ c.in-Status.key.gtin c.add_status.new.self (c.in_ok-shelf-in-Status.ensures.update.0 c.add_status.new.self).0 (search rules))
           c.args.log.now (take c.args.place c.args.log.now) c.requires.tables.shelves now (λ other e parts. shelf-kept c.args.log.now c.args.place other parts (status-away c.args.log.now c.args.place c.in-Status.key c.requires.last (own c) other e));
       named = named-at c.args.log.now c.args.place c.requires.last c.args.self.now.named (status-form c.in-Status.key (get_or c.args.log.now c.args.place no_entry).item (own c)).3 c.requires.tables.named;
     })
@@ -65,14 +65,14 @@ returns-in_ok-shelf-in-Status-clause-err c =
       masters = c.requires.tables.masters;
       stops = c.requires.tables.stops;
       named = c.requires.tables.named;
-      shelves = shelves-follow c.args.self.now.shelves.entries _ c.in-Status.key.gtin c.add_status.new.self (λ other. grind (arith, common_steps, (c.in_ok-shelf-in-Status.ensures.update.0 c.add_status.new.self).0 other))
+      shelves = shelves-follow c.args.self.now.shelves.entries _ c.in-Status.key.gtin c.add_status.new.self (shelf-written c.args.self.now.shelves.entries _ _ c.in-Status.key.gtin c.add_status.new.self (c.in_ok-shelf-in-Status.ensures.update.0 c.add_status.new.self).0 (search rules))
           before before c.requires.tables.shelves now (λ other e parts h. h);
     })
 
 pub returns-in_default-clause-ok : goal.returns-in_default-clause-ok
 returns-in_default-clause-ok c =
-    tables-noted c.args.log.now c.args.place c.requires.last c.args.self.now (none-noted (get_or c.args.log.now c.args.place no_entry).item (search rules)) c.requires.tables
+    tables-noted c.args.log.now c.args.place c.requires.last c.args.self.now (none-noted (get_or c.args.log.now c.args.place no_entry).item (sym c.in_default.ensures)) c.requires.tables
 
 pub returns-in_default-message-clause-ok : goal.returns-in_default-message-clause-ok
 returns-in_default-message-clause-ok c =
-    tables-noted c.args.log.now c.args.place c.requires.last c.args.self.now (other-noted (get_or c.args.log.now c.args.place no_entry).item c.in-Some.message.now (search rules) c.in_default-message.not-Master c.in_default-message.not-Upload c.in_default-message.not-Status c.in_default-message.not-Recall c.in_default-message.not-Withdraw) c.requires.tables
+    tables-noted c.args.log.now c.args.place c.requires.last c.args.self.now (other-noted (get_or c.args.log.now c.args.place no_entry).item c.in-Some.message.now (sym c.in-Some.ensures) c.in_default-message.not-Master c.in_default-message.not-Upload c.in_default-message.not-Status c.in_default-message.not-Recall c.in_default-message.not-Withdraw) c.requires.tables

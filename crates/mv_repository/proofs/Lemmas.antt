@@ -3,7 +3,7 @@ pub use Rattle.mv_repository.proofs.Words.{AreAt, AreShelfOf, AreSlots, AreStops
 pub use Rattle.mv_repository.proofs.TrackLemmas.{IsCutFor, not_twice, parted, stays_at, put-ascend, put-known, put-late, put-unknown, status-form}
 pub use Rattle.mv_repository.proofs.KeptLemmas.{life_batch, text-self}
 pub use Rattle.mv_repository.proofs.TableLemmas.{log-length, log-split, longer}
-pub use Rattle.mv_repository.proofs.SerialLemmas.{IsShelved, listed_in, no-shelf-yet, serials-at, shelf-kept, shelf-seen, shelf-written, shelved-none, shelves-follow, upload-serials}
+pub use Rattle.mv_repository.proofs.SerialLemmas.{IsShelved, listed_in, no-shelf-yet, serials-at, shelf-kept, shelf-same, shelf-seen, shelf-written, shelved-none, shelves-follow, upload-serials}
 pub use Rattle.mv_repository.proofs.BlockLemmas.{covered-more, fold-cut, last-blocks, late-before, late-front, late-fold, pass-after, pass-behind, pass-front, renewed}
 pub use Rattle.mv_repository.proofs.TrackLemmas.{put-ascend, status-form}
 pub use Rattle.mv_repository.proofs.UploadLemmas.{ArePacksOf, batch-kept, batch-noted, status-others, upload-adds, upload-all, upload-form, upload-names}

@@ -1,6 +1,6 @@
 -- The serial numbers of a product that a log names, after one more entry; and what is kept of all packs, where the shelf of one product is
 -- written.
-use Rattle.mv_repository.proofs.Words.{arith, nat_tests, ◌≡◌, ◌+◌, ◌∷◌, bytes_eq, ℕ, List, [], length, get_or, take, fold, sym, ◌∙◌, ap, subst, true, true≢false, cond, insert_key, Item, Carried, Status, pack_key, PackKey, LogEntry, AreShelfOf, AreSlots, ShelfParts, ShelfTable, Slot, shelf_by, IsPackOf, IsShelfOf, IsUploadOf, Life, life_of, is_status_of, no_entry, no_shelf, refl, IsDistinct, serials_in, serials_of, ◌||◌, Bool, false, same_text, HashSet, lookup, map, lists, is_in, not, option_map, shelf_of, Some}
+use Rattle.mv_repository.proofs.Words.{arith, nat_tests, ◌≡◌, ◌+◌, ◌∷◌, bytes_eq, ℕ, List, [], length, get_or, take, fold, sym, ◌∙◌, ap, subst, true, true≢false, cond, insert_key, Item, Carried, Status, pack_key, PackKey, LogEntry, AreShelfOf, AreSlots, ShelfParts, ShelfTable, Slot, shelf_by, keyed, IsPackOf, IsShelfOf, IsUploadOf, Life, life_of, is_status_of, no_entry, no_shelf, refl, IsDistinct, serials_in, serials_of, ◌||◌, Bool, false, same_text, HashSet, lookup, map, lists, is_in, not, option_map, shelf_of, Some}
 use Rattle.mv_repository.proofs.KeptLemmas.{same_pack}
 use Rattle.mv_repository.proofs.SlotLemmas.{slots-longer}
 use Rattle.mv_repository.proofs.StoppedLemmas.{once-all}
@@ -46,6 +46,13 @@ pub shelf-longer : (whole : List LogEntry) (place : ℕ) (gtin : List ℕ) (part
 shelf-longer whole place gtin parts of =
     let longer = slots-longer whole place parts.slots.table of.slots in
     (longer.0, subst (λ (slots : List (List ℕ × Slot)). IsShelfOf (take place whole) gtin (record { slots = slots; tracks = parts.tracks; listing = parts.listing })) (sym longer.1) of.shelf)
+
+-- the same but for the room
+pub shelf-same : (log : List LogEntry) (gtin : List ℕ) (old new : ShelfParts) → new.slots.table ≡ old.slots.table → new.tracks ≡ old.tracks → new.listing ≡ old.listing → AreShelfOf log gtin old → AreShelfOf log gtin new
+shelf-same log gtin old new slots tracks listing of = record {
+  slots = subst (AreSlots log) (sym slots) of.slots;
+  shelf = subst (IsShelfOf log gtin) (λ i. record { slots = keyed log (sym slots i).names (sym slots i).slots; tracks = sym tracks i; listing = sym listing i }) of.shelf;
+}
 
 -- the same of a shelf as it is seen
 pub shelf-seen : {given parts : ShelfParts} (whole : List LogEntry) (place : ℕ) (gtin : List ℕ) → given ≡ parts → AreShelfOf (take place whole) gtin parts

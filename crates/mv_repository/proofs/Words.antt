@@ -25,12 +25,12 @@ pub use Rattle.mv_repository.specs.inside.Slots.{AreSlots, IsEntered, IsNamed, I
 pub use Rattle.mv_repository.specs.inside.Tables.{AreMastersOf, AreTablesOf, IsInquiriesOf, has_reply, inquiry_after, inquiry_of, is_master, no_inquiry, query_of}
 pub use Rattle.std.proofs.Common.{Bool, IfSome, List, None, OnErr, OnOk, Option, Result, Some, [], ap, append-nil, append_assoc, arith, cond, drop, false, filter, find, fold, get_or, inl, inr, insert, is_some, length, length-append, map, min, nat_eq, nat_lt, not, refl, rules, set, subst, suc, sym, take, true, true≢false, zero, ℕ, ◌∙◌}
 pub use Rattle.std.proofs.Math.Bool.{or-false, or-true}
-pub use Rattle.std.proofs.Math.ListN.{drop_of_length-le}
+pub use Rattle.std.proofs.Math.ListN.{drop_of_length-le, length-set}
 pub use Rattle.std.proofs.Math.Seq.{take-add}
 pub use Rattle.std.proofs.lemmas.Bool.{cond_both}
 pub use Rattle.std.proofs.lemmas.Bool.Decides.{nat_tests}
 pub use Rattle.std.proofs.lemmas.Grind.{common_steps, elements, flat_map-append}
-pub use Rattle.std.proofs.lemmas.List.{at_drop_more, drop-append-le, drop-drop, drop-map, drop_at, get_or_append_left, get_or_default, get_or_push, length-drop, length-map, length-take-le, map-append, take-append-drop, take-append-le, take-map, take_all, take_at, take_more, take_more_set}
+pub use Rattle.std.proofs.lemmas.List.{at_drop_more, drop-append-le, drop-drop, drop-map, drop_at, get_or_append_left, get_or_default, get_or_push, length-drop, length-map, length-take-le, map-append, set-get_or, take-append-drop, take-append-le, take-map, take_all, take_at, take_more, take_more_set}
 pub use Rattle.std.proofs.lemmas.List.Edits.{get_or-insert_at}
 pub use Rattle.std.proofs.lemmas.List.Elements.{All-contains, All-contains_itself, All-filter, All-from_recursion, All-weaker, filter-append, filter_map-append, recursion_from_All}
 pub use Rattle.std.proofs.lemmas.List.Folds.{list_any-append, list_any_more}

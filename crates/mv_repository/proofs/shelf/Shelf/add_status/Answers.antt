@@ -1,6 +1,6 @@
 -- The pack has the status, and no other track is touched.
-use Rattle.mv_repository.proofs.Lemmas.{◌≡◌, ◌++◌, ◌∷◌, AreSlots, IfSome, IsChanged, IsKept, IsShelfOf, IsWritten, Kept, List, LogEntry, Option, Own, ShelfTable, Slot, SlotTable, Some, [], ap, arith, batch-kept, batch-noted, batch_at, bytes_eq, found-own, get_or, get_or_append_left, get_or_push, is-changed, is_listed, keyed, kept_by, kept_in, length, life_batch, life_of, lists, lookup, nothing_kept, on_map, option_and_then, own-changed, own-kept, own-set, own-there, own-within, refl, shelf-seen, status-others, subst, sym, take, true, ℕ, ◌∙◌}
-use Rattle.mv_repository.proofs.Words.{set}
+use Rattle.mv_repository.proofs.Lemmas.{◌≡◌, ◌++◌, ◌∷◌, AreSlots, IfSome, IsChanged, IsKept, IsShelfOf, IsWritten, Kept, List, LogEntry, Option, Own, ShelfTable, Slot, SlotTable, Some, [], ap, arith, batch-kept, batch-noted, batch_at, bytes_eq, found-own, get_or, get_or_append_left, get_or_push, is-changed, is_listed, keyed, kept_by, kept_in, length, life_batch, life_of, lists, lookup, map_err, nothing_kept, on_err, on_map, option_and_then, own-changed, own-kept, own-set, own-there, own-within, refl, shelf-same, shelf-seen, status-others, subst, sym, take, true, ℕ, ◌∙◌}
+use Rattle.mv_repository.proofs.Words.{length-set, set, set-get_or}
 use Rattle.mv_repository.proofs.shelf.Shelf.add_status.Goals.{In-Some-Own}
 use Rattle.mv_repository.proofs.shelf.Shelf.add_status.Goals as goal
 
@@ -50,6 +50,31 @@ returns-in-Some-Own-clause-ok c =
                 (sym (batch-kept (whole at) c.args.newest.now.place pack c.args.newest.now.last c.requires.own)) ((seen at).1.packs pack.serial).listed;
           });
     })
+
+pub invariant_of-self : goal.invariant_of-self
+invariant_of-self c = c.self.invariant ∙ sym (length-set c.self.inside.tracks.items c.in-Some-Own.number c.add_status.new.self)
+
+pub returns-in-Some-Own-clause-effect : goal.returns-in-Some-Own-clause-effect
+returns-in-Some-Own-clause-effect c = c.add_status.ensures.effect
+
+pub returns-in-Some-Own-clause-err : goal.returns-in-Some-Own-clause-err
+returns-in-Some-Own-clause-err c =
+    let tracks = c.self.inside.tracks.items in
+    map_err c.add_status.result c.add_status.ensures.err (λ same. shelf-same _ _ c.args.self.now _ (λ i. (c.self.view_is i).slots.table)
+    (ap (set tracks c.in-Some-Own.number) (same ∙ c.index_mut.ensures.value) ∙ set-get_or tracks c.in-Some-Own.number c.index_mut.result.now ∙ (λ i. (c.self.view_is i).tracks)) (λ i. (c.self.view_is i).listing) c.requires.shelf)
+
+-- where memory is refused, all but the room is as it was
+pub invariant_of-self-in_err-number : goal.invariant_of-self-in_err-number
+invariant_of-self-in_err-number c = ap (λ (table : SlotTable). length table.names) c.in_err-number.ensures.err ∙ c.self.invariant ∙ sym (ap length c.reserve.ensures.items)
+
+pub returns-in_err-reserve-clause-err : goal.returns-in_err-reserve-clause-err
+returns-in_err-reserve-clause-err c = on_err c.from_residual.result _ (shelf-same _ _ c.args.self.now _ (λ i. (c.self.view_is i).slots.table) (c.reserve.ensures.items ∙ (λ i. (c.self.view_is i).tracks)) (λ i. (c.self.view_is i).listing) c.requires.shelf)
+
+pub returns-in_err-effect-clause-err : goal.returns-in_err-effect-clause-err
+returns-in_err-effect-clause-err c = on_err c.from_residual-in_err-effect.result _ (shelf-same _ _ c.args.self.now _ (λ i. (c.self.view_is i).slots.table) (c.reserve.ensures.items ∙ (λ i. (c.self.view_is i).tracks)) (λ i. (c.self.view_is i).listing) c.requires.shelf)
+
+pub returns-in_err-number-clause-err : goal.returns-in_err-number-clause-err
+returns-in_err-number-clause-err c = on_err c.from_residual-in_err-number.result _ (shelf-same _ _ c.args.self.now _ (c.in_err-number.ensures.err ∙ (λ i. (c.self.view_is i).slots.table)) (c.reserve.ensures.items ∙ (λ i. (c.self.view_is i).tracks)) (λ i. (c.self.view_is i).listing) c.requires.shelf)
 
 -- the pack gets a track
 module _ (c : goal.After-push_reserved) where

@@ -12,20 +12,6 @@ effect-newest old whole entry place e n = grind (arith, nat_tests, take_at, get_
 front-again : (old whole : List LogEntry) (entry : LogEntry) (place : ℕ) → whole ≡ longer old entry → length whole ≡ place + 1 → take place whole ≡ old
 front-again old whole entry place e n = grind (arith, common_steps)
 
--- where memory is refused, what is kept is of the same log
-pub invariant_of-self : goal.invariant_of-self
-invariant_of-self c = (c.self.invariant.0, c.reserve.ensures.same _ _ c.self.invariant.1)
-
-pub invariant_of-self-in_err-reserve-2 : goal.invariant_of-self-in_err-reserve-2
-invariant_of-self-in_err-reserve-2 c =
-    subst (λ (log : List LogEntry). AreTablesOf log c.self.inside.tables × IsInquiriesOf c.self.inside.party log c.reserve.new.self) (sym c.reserve-2.ensures.items)
-    (c.self.invariant.0, c.reserve.ensures.same _ _ c.self.invariant.1)
-
-pub invariant_of-self-in_default : goal.invariant_of-self-in_default
-invariant_of-self-in_default c =
-    subst (λ (log : List LogEntry). AreTablesOf log c.self.inside.tables × IsInquiriesOf c.self.inside.party log c.reserve.new.self) (sym c.reserve-2.ensures.items)
-    (c.self.invariant.0, c.reserve.ensures.same _ _ c.self.invariant.1)
-
 -- the log with the entry, and what stands before it
 module _ (c : goal.After-as_slice) where
   last : length c.as_slice.result.now ≡ c.len-place.result + 1
@@ -34,9 +20,6 @@ module _ (c : goal.After-as_slice) where
   front : take c.len-place.result c.as_slice.result.now ≡ c.self.inside.log.items
   front = front-again c.self.inside.log.items c.as_slice.result.now (record { sender = c.args.sender; item = c.in-Ok.copy }) c.len-place.result
       (c.as_slice.ensures.value ∙ c.push_reserved.ensures.items ∙ (λ i. longer (c.reserve-2.ensures.items i) (record { sender = c.args.sender; item = c.in-Ok.copy }))) last
-
-pub add-requires-clause-last : goal.add-requires-clause-last
-add-requires-clause-last c = last c
 
 pub add-requires-clause-tables : goal.add-requires-clause-tables
 add-requires-clause-tables c = subst (λ (log : List LogEntry). AreTablesOf log c.self.inside.tables) (sym (front c)) c.self.invariant.0

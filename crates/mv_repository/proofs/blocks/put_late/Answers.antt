@@ -1,6 +1,6 @@
 -- A status that is the last changes no block.
-use Rattle.mv_repository.proofs.Lemmas.{◌∙◌, ℕ, ap, arith, common_steps, rules, get_or, without, effect_in, entry_in, next_in, refl, last-blocks, late-before, late-fold, late-front}
-use Rattle.mv_repository.proofs.Words.{List, elements, fold, length, take, ◌+◌, ◌<◌, ◌≡◌}
+use Rattle.mv_repository.proofs.Lemmas.{◌∙◌, ◌+◌, ◌≡◌, List, fold, length, take, ℕ, ap, arith, common_steps, rules, get_or, without, effect_in, entry_in, next_in, refl, last-blocks, late-before, late-fold, late-front}
+use Rattle.mv_repository.proofs.Words.{elements}
 use Rattle.mv_repository.proofs.blocks.put_late.Goals as goal
 
 pub returns-then-at-own-clause-blocks : goal.returns-then-at-own-clause-blocks
@@ -11,21 +11,8 @@ last-without own at e = grind (arith, elements)
 
 pub returns-then-at-own-clause-effect : goal.returns-then-at-own-clause-effect
 returns-then-at-own-clause-effect c =
-    let e : c.args.at + 1 ≡ length c.args.own.now = omega arith in
-    c.next.ensures.effect
-    ∙ ap (λ (n : ℕ). effect_in c.args.basis.now n (get_or c.args.own.now c.args.at 0)) (c.requires.standing ∙ ap (fold (next_in c.args.basis.now) c.args.basis.now.birth) (last-without c.args.own.now c.args.at e))
-
-pub pass_on-requires : goal.pass_on-requires
-pass_on-requires c =
-    let number : c.cut_at-cut.result.number < length c.args.blocks.now.items = omega arith in
-    record {
-      within = c.requires.within;
-      number = number;
-      at = c.cut_at-cut.ensures.at;
-      inside = c.cut_at-cut.ensures.inside number;
-      cut = c.cut_at-cut.ensures.cut (without c.args.own.now c.args.at) c.requires.blocks;
-      standing = c.requires.standing;
-    }
+    let before = c.requires.standing ∙ ap (fold (next_in c.args.basis.now) c.args.basis.now.birth) (last-without c.args.own.now c.args.at (omega arith)) in
+    c.next.ensures.effect ∙ ap (λ (n : ℕ). effect_in c.args.basis.now n (get_or c.args.own.now c.args.at 0)) before
 
 pub returns-then-index-clause-effect : goal.returns-then-index-clause-effect
 returns-then-index-clause-effect c =

@@ -54,9 +54,6 @@ returns-in-Some-Own-clause-ok c =
 pub invariant_of-self : goal.invariant_of-self
 invariant_of-self c = c.self.invariant ∙ sym (length-set c.self.inside.tracks.items c.in-Some-Own.number c.add_status.new.self)
 
-pub returns-in-Some-Own-clause-effect : goal.returns-in-Some-Own-clause-effect
-returns-in-Some-Own-clause-effect c = c.add_status.ensures.effect
-
 pub returns-in-Some-Own-clause-err : goal.returns-in-Some-Own-clause-err
 returns-in-Some-Own-clause-err c =
     let tracks = c.self.inside.tracks.items in
@@ -66,12 +63,6 @@ returns-in-Some-Own-clause-err c =
 -- where memory is refused, all but the room is as it was
 pub invariant_of-self-in_err-number : goal.invariant_of-self-in_err-number
 invariant_of-self-in_err-number c = ap (λ (table : SlotTable). length table.names) c.in_err-number.ensures.err ∙ c.self.invariant ∙ sym (ap length c.reserve.ensures.items)
-
-pub returns-in_err-reserve-clause-err : goal.returns-in_err-reserve-clause-err
-returns-in_err-reserve-clause-err c = on_err c.from_residual.result _ (shelf-same _ _ c.args.self.now _ (λ i. (c.self.view_is i).slots.table) (c.reserve.ensures.items ∙ (λ i. (c.self.view_is i).tracks)) (λ i. (c.self.view_is i).listing) c.requires.shelf)
-
-pub returns-in_err-effect-clause-err : goal.returns-in_err-effect-clause-err
-returns-in_err-effect-clause-err c = on_err c.from_residual-in_err-effect.result _ (shelf-same _ _ c.args.self.now _ (λ i. (c.self.view_is i).slots.table) (c.reserve.ensures.items ∙ (λ i. (c.self.view_is i).tracks)) (λ i. (c.self.view_is i).listing) c.requires.shelf)
 
 pub returns-in_err-number-clause-err : goal.returns-in_err-number-clause-err
 returns-in_err-number-clause-err c = on_err c.from_residual-in_err-number.result _ (shelf-same _ _ c.args.self.now _ (c.in_err-number.ensures.err ∙ (λ i. (c.self.view_is i).slots.table)) (c.reserve.ensures.items ∙ (λ i. (c.self.view_is i).tracks)) (λ i. (c.self.view_is i).listing) c.requires.shelf)

@@ -1,10 +1,22 @@
 -- The entry that is added stands behind the log that was.
-use Rattle.mv_repository.proofs.Lemmas.{◌≡◌, ℕ, List, LogEntry, arith, common_steps, effect_of, get_or, get_or_push, length, longer, nat_tests, no_entry, take, take_at}
+use Rattle.mv_repository.proofs.Lemmas.{◌≡◌, ◌+◌, ◌∙◌, ap, subst, sym, ℕ, List, LogEntry, arith, common_steps, effect_of, get_or, get_or_push, length, longer, nat_tests, no_entry, take, take_at}
+use Rattle.mv_repository.proofs.Words.{AreTablesOf, IsInquiriesOf}
 use Rattle.mv_repository.proofs.repository.Repository.enter.Goals as goal
 
 effect-newest : (old whole : List LogEntry) (entry : LogEntry) (place : ℕ) → whole ≡ longer old entry → place ≡ length old
     → effect_of (take place whole) (get_or whole place no_entry) ≡ effect_of old entry
 effect-newest old whole entry place e n = grind (arith, nat_tests, take_at, get_or_push)
+
+-- where the entry is taken away again, the log is what it was
+front-again : (old whole : List LogEntry) (entry : LogEntry) (place : ℕ) → whole ≡ longer old entry → length whole ≡ place + 1 → take place whole ≡ old
+front-again old whole entry place e n = grind (arith, common_steps)
+
+pub invariant_of-self-in-Err : goal.invariant_of-self-in-Err
+invariant_of-self-in-Err c =
+    let front = front-again c.self.inside.log.items c.push_reserved.new.self.items (record { sender = c.args.sender; item = c.in-Ok.copy }) c.len-place.result (c.push_reserved.ensures.items ∙ (λ i. longer (c.reserve-2.ensures.items i) (record { sender = c.args.sender; item = c.in-Ok.copy }))) (omega arith) in (
+      subst (λ (log : List LogEntry). AreTablesOf log c.add.new.self) (ap (take c.len-place.result) c.as_slice.ensures.value ∙ sym c.truncate.ensures.items) c.in-Err.ensures.err,
+      subst (λ (log : List LogEntry). IsInquiriesOf c.self.inside.party log c.reserve.new.self) (sym (c.truncate.ensures.items ∙ front)) (c.reserve.ensures.same _ _ c.self.invariant.1),
+    )
 
 pub returns-in-Ok-add-clause-effect : goal.returns-in-Ok-add-clause-effect
 returns-in-Ok-add-clause-effect c = grind (arith, common_steps, effect-newest)

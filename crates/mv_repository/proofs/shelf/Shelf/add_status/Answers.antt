@@ -61,9 +61,6 @@ returns-in-Some-Own-clause-err c =
     (ap (set tracks c.in-Some-Own.number) (same ∙ c.index_mut.ensures.value) ∙ set-get_or tracks c.in-Some-Own.number c.index_mut.result.now ∙ (λ i. (c.self.view_is i).tracks)) (λ i. (c.self.view_is i).listing) c.requires.shelf)
 
 -- where memory is refused, all but the room is as it was
-pub invariant_of-self-in_err-number : goal.invariant_of-self-in_err-number
-invariant_of-self-in_err-number c = ap (λ (table : SlotTable). length table.names) c.in_err-number.ensures.err ∙ c.self.invariant ∙ sym (ap length c.reserve.ensures.items)
-
 pub returns-in_err-number-clause-err : goal.returns-in_err-number-clause-err
 returns-in_err-number-clause-err c = on_err c.from_residual-in_err-number.result _ (shelf-same _ _ c.args.self.now _ (c.in_err-number.ensures.err ∙ (λ i. (c.self.view_is i).slots.table)) (c.reserve.ensures.items ∙ (λ i. (c.self.view_is i).tracks)) (λ i. (c.self.view_is i).listing) c.requires.shelf)
 

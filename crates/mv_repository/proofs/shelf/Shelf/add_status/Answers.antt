@@ -56,9 +56,8 @@ invariant_of-self c = c.self.invariant ∙ sym (length-set c.self.inside.tracks.
 
 pub returns-in-Some-Own-clause-err : goal.returns-in-Some-Own-clause-err
 returns-in-Some-Own-clause-err c =
-    let tracks = c.self.inside.tracks.items in
     map_err c.add_status.result c.add_status.ensures.err (λ same. shelf-same _ _ c.args.self.now _ (λ i. (c.self.view_is i).slots.table)
-    (ap (set tracks c.in-Some-Own.number) (same ∙ c.index_mut.ensures.value) ∙ set-get_or tracks c.in-Some-Own.number c.index_mut.result.now ∙ (λ i. (c.self.view_is i).tracks)) (λ i. (c.self.view_is i).listing) c.requires.shelf)
+    (ap (set c.self.inside.tracks.items c.in-Some-Own.number) (same ∙ c.index_mut.ensures.value) ∙ set-get_or c.self.inside.tracks.items c.in-Some-Own.number c.index_mut.result.now ∙ (λ i. (c.self.view_is i).tracks)) (λ i. (c.self.view_is i).listing) c.requires.shelf)
 
 -- where memory is refused, all but the room is as it was
 pub returns-in_err-number-clause-err : goal.returns-in_err-number-clause-err

@@ -1,4 +1,5 @@
 -- The names of the library and of the crates below that proofs cite, passed on from one place. Declares nothing.
+pub use Rattle.indexmap.proofs.MapLemmas.{absent_from_lookup, insert_entry-absent}
 pub use Rattle.indexmap.proofs.SetLemmas.{keys_insert_entry}
 pub use Rattle.indexmap.specs.IndexMap.{insert_entry}
 pub use Rattle.mv_link.specs.PartySets.{has_party}
@@ -7,10 +8,10 @@ pub use Rattle.mv_pack.specs.Keys.{batch_key, is_same_batch, is_same_pack, pack_
 pub use Rattle.mv_pack.specs.declared.key.BatchKey.{BatchKey}
 pub use Rattle.mv_pack.specs.declared.key.PackKey.{PackKey}
 pub use Rattle.mv_repository.specs.Agreement.{AgreeOn, HasDistinctStamps, HaveSameAbout, HaveSameEntries, HaveSameHistory, PackHistory, Sent, SentHistory, SentStatus, about, batch_in, bears_on, history_of, is_batch_recalled, sent_in, sent_of, sent_status, unplaced}
+pub use Rattle.mv_repository.specs.Bearing.{FirstStops, entry_at, entry_of, first_stops, first_upload, is_before, is_status_of, is_upload_of, message_in, no_entry, pack_changed, pack_grown, pack_made_by, pack_step, standing_at, statuses_of, withdrawn_in}
 pub use Rattle.mv_repository.specs.Order.{Ascends, IsOrderOf, Placed, ordered, passes, put_in, stands_before}
 pub use Rattle.mv_repository.specs.Pack.{ChangeNamesStatus, KnownPack, NamesStatus, batch_standing, change_effect, effect_after, effect_of, entries_before, has_pack, held_of, is_active, is_done, is_recall_of, is_recalled_by, is_withdrawal_of, is_withdrawn_by, known_pack, known_pack_from, lasting_effect, pack_after_item, pack_state}
 pub use Rattle.mv_repository.specs.Repository.{items_from, mastered_in, product_of, product_under, recalled_in, serials_in, serials_of, uploaded_in, uploaded_packs}
-pub use Rattle.mv_repository.specs.Bearing.{FirstStops, entry_at, entry_of, first_stops, first_upload, is_before, is_status_of, is_upload_of, message_in, no_entry, pack_changed, pack_grown, pack_made_by, pack_step, standing_at, statuses_of, withdrawn_in}
 pub use Rattle.mv_repository.specs.Verdict.{asked_parties, finding_in, found_active, found_explained, has_answered, joint_verdict, query_reach, verdict_when}
 pub use Rattle.mv_repository.specs.Words.{Active, BatchStanding, Block, Carried, Counted, Decided, Effect, HashSet, Held, Item, LogEntry, Made, Master, Message, Own, PARTIES_LIMIT, PartySet, Product, Recall, Receipt, Slot, Standing, Status, Stop, Stops, Upload, Withdraw, bytes_eq, insert_all, insert_key, keys_of, lookup, option_and_then, option_map, option_map_or, option_or, slice_get, unwrap_or}
 pub use Rattle.mv_repository.specs.declared.blocks.Cut.{Cut}
@@ -19,25 +20,25 @@ pub use Rattle.mv_repository.specs.declared.history.Places.{Places}
 pub use Rattle.mv_repository.specs.declared.inquiries.Inquiries.{Inquiries}
 pub use Rattle.mv_repository.specs.declared.inquiries.Inquiry.{Inquiry}
 pub use Rattle.mv_repository.specs.declared.tables.Tables.{Tables}
-pub use Rattle.mv_repository.specs.inside.Track.{AreAt, history_at, AreFirstsOf, AreFound, AreStopsOf, HasFirst, comes_first, earlier_place, first_place, is_stop, place_of, stopped_product, stops_in, AreBlocks, IsCovered, IsCut, IsFront, IsKept, IsSummary, IsTrack, Kept, Life, batch_at, change_in, effect_from, effect_in, effect_on, entry_in, held_at, known_at, life_of, made_batch, next_by, next_in, next_place, standing_in, track_of, without}
 pub use Rattle.mv_repository.specs.inside.Shelf.{AreShelfOf, IsAgain, IsChanged, IsPackOf, IsPut, IsRefreshed, IsShelfOf, IsUploadOf, ListingTable, ShelfParts, ShelfTable, has_number, is_counted, is_in, is_listed, kept_by, kept_in, lists, may_stop, no_shelf, nothing_kept, shelf_by, shelf_of, slots_counted}
-pub use Rattle.mv_repository.specs.inside.Slots.{AreSlots, IsEntered, IsNamed, IsSpot, IsWritten, Writes, RoomySlots, SlotTable, keyed, no_slot, serial_hash, serial_of, serials_uploaded}
+pub use Rattle.mv_repository.specs.inside.Slots.{AreSlots, IsEntered, IsNamed, IsSpot, IsWritten, RoomySlots, SlotTable, Writes, keyed, no_slot, serial_hash, serial_of, serials_uploaded}
 pub use Rattle.mv_repository.specs.inside.Tables.{AreMastersOf, AreTablesOf, IsInquiriesOf, has_reply, inquiry_after, inquiry_of, is_master, no_inquiry, query_of}
-pub use Rattle.std.proofs.Common.{Bool, IfSome, List, None, OnErr, OnOk, Option, Result, Some, [], ap, append-nil, append_assoc, arith, cond, drop, false, filter, find, fold, get_or, inl, inr, insert, is_some, length, length-append, map, min, nat_eq, nat_lt, not, refl, rules, set, subst, suc, sym, take, true, true≢false, zero, ℕ, ◌∙◌}
+pub use Rattle.mv_repository.specs.inside.Track.{AreAt, AreBlocks, AreFirstsOf, AreFound, AreStopsOf, HasFirst, IsCovered, IsCut, IsFront, IsKept, IsSummary, IsTrack, Kept, Life, batch_at, change_in, comes_first, earlier_place, effect_from, effect_in, effect_on, entry_in, first_place, held_at, history_at, is_stop, known_at, life_of, made_batch, next_by, next_in, next_place, place_of, standing_in, stopped_product, stops_in, track_of, without}
+pub use Rattle.std.proofs.Common.{Bool, IfSome, List, None, OnErr, OnOk, Option, Result, Some, [], ap, append-nil, append_assoc, arith, cond, drop, false, filter, find, fold, get_or, get_or-set_other, inl, inr, insert, is_some, length, length-append, map, min, nat_eq, nat_lt, not, refl, rules, set, subst, suc, sym, take, true, true≢false, zero, ℕ, ◌∙◌}
 pub use Rattle.std.proofs.Math.Bool.{or-false, or-true}
 pub use Rattle.std.proofs.Math.ListN.{drop_of_length-le, length-set}
 pub use Rattle.std.proofs.Math.Seq.{take-add}
 pub use Rattle.std.proofs.lemmas.Bool.{cond_both}
 pub use Rattle.std.proofs.lemmas.Bool.Decides.{nat_tests}
 pub use Rattle.std.proofs.lemmas.Grind.{common_steps, elements, flat_map-append}
-pub use Rattle.std.proofs.lemmas.List.{at_drop_more, drop-append-le, drop-drop, drop-map, drop_at, get_or_append_left, get_or_default, get_or_push, length-drop, length-map, length-take-le, map-append, set-get_or, take-append-drop, take-append-le, take-map, take_all, take_at, take_more, take_more_set}
+pub use Rattle.std.proofs.lemmas.List.{at_drop_more, drop-append-le, drop-drop, drop-map, drop_at, get_or-map, get_or-set_same, get_or-take, get_or_append_left, get_or_default, get_or_push, length-drop, length-map, length-take-le, map-append, set-get_or, take-append-drop, take-append-le, take-map, take_all, take_at, take_more, take_more_set}
 pub use Rattle.std.proofs.lemmas.List.Edits.{get_or-insert_at}
 pub use Rattle.std.proofs.lemmas.List.Elements.{All-contains, All-contains_itself, All-filter, All-from_recursion, All-weaker, filter-append, filter_map-append, recursion_from_All}
 pub use Rattle.std.proofs.lemmas.List.Folds.{list_any-append, list_any_more}
 pub use Rattle.std.proofs.lemmas.List.Sorted.{All-permutation, IsPermutation-cons, IsPermutation-middle, IsPermutation-refl, IsPermutation-sym, IsPermutation-to_front, IsPermutation-trans, list_any-IsPermutation}
 pub use Rattle.std.proofs.lemmas.List.Sums.{count_by-le-length, fold-append, length-filter}
 pub use Rattle.std.proofs.lemmas.Map.Entries.{length-keys_of, lookup-filter-values, option_filter}
-pub use Rattle.std.proofs.lemmas.Map.Keys.{IsDistinct-IsPermutation, IsDistinct-head, IsDistinct-tail}
+pub use Rattle.std.proofs.lemmas.Map.Keys.{IsDistinct-IsPermutation, IsDistinct-head, IsDistinct-push, IsDistinct-tail}
 pub use Rattle.std.proofs.lemmas.Map.Made.{IsDistinct-keys_filter, distinct_count-le, is_member-filter, is_some-lookup, length-from_keys}
 pub use Rattle.std.proofs.lemmas.Option.{get_or_from_slice_get, gets, slice_get-get_or, slice_get_within}
 pub use Rattle.std.specs.Cmp.{IsEquivalence}

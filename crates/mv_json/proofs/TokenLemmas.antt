@@ -1,5 +1,6 @@
 -- Tokens that are put one after another.
-use Rattle.mv_json.proofs.Words.{◌≡◌, ◌≤◌, ℕ, List, [], ◌∷◌, ◌++◌, length, map, take, refl, subst, ap, ◌∙◌, append_assoc, None, Some, Result, Ok, arith, Data, Field, Puts, PutsValue, Token, Version, array, begin_array, compact_text, end_array, end_object, field_name, items_outline, member, members_of, members_outline, members_put, no_members, option_map_or, print, print-outline, since_two, strings, take_all, tokens_of, version_member, whole, on_ok_weaker}
+use Rattle.mv_json.proofs.Words.{◌≡◌, ◌≤◌, ℕ, List, [], ◌∷◌, ◌++◌, length, map, take, refl, subst, ap, ◌∙◌, append_assoc, None, Some, Result, Ok, arith, Data, Field, Puts, PutsValue, Token, Version, array, begin_array, compact_text, end_array, end_object, field_name, items_outline, member, members_of, members_outline, members_put, no_members, option_map_or, print, print-outline, since_two, strings, take_all, tokens_of, version_member, whole}
+use Rattle.std.proofs.lemmas.Result.{on_ok_weaker}
 use Rattle.json.specs.Tree.{items_tokens, members_tokens}
 use Rattle.json.specs.Written.{Written, Writes}
 use Rattle.mv_json.specs.declared.member.Said.{Said}

@@ -1,9 +1,10 @@
 //! The ends of a system whose parts run apart: the hub's end, and the end of each repository.
 //!
-//! The workers are their user: each thread owns one end. Ends share nothing but rings, of one producer and one consumer
-//! each: one for each party's uplink to the hub, and one for each ordered pair of parties, which is the wire of their link.
-//! What crosses a ring is in memory of its own (a parcel). The contract: each call is the step of its name, over the
-//! lists that the end itself keeps. No call waits, and none takes a lock. This crate knows no thread and no JSON.
+//! The workers are their user: each thread owns one end. The inside of the program, `mv_tool`, has a report written. Ends share
+//! nothing but rings, of one producer and one consumer each: one for each party's uplink to the hub, and one for each ordered pair of
+//! parties, which is the wire of their link. What crosses a ring is in memory of its own (a parcel). The contract: each call is the
+//! step of its name, over the lists that the end itself keeps. No call waits, and none takes a lock. [`report`] writes `report_text`
+//! of the state that is seen in what was gathered. This crate knows no thread and no JSON.
 //!
 //! It can be used alone, with the crates that its line of crates.txt names.
 //! A caller that opens the ends, submits at the first party's (`submit_first` calls `submit` of it), routes, and gathers all,
@@ -23,6 +24,17 @@
 //!     hub.route(0);
 //!     ends_stay_ends();
 //!     Some(gather(hub, repos))
+//! }
+//! ```
+//!
+//! A caller that compares a report, proved in the gate (`thread_rows`):
+//!
+//! ```rust
+//! fn is_reported(alloc: Global, outcome: &Outcome, text: &str) -> bool {
+//!     match report(alloc, outcome) {
+//!         Ok(written) => written.as_str() == text,
+//!         Err(_) => false,
+//!     }
 //! }
 //! ```
 #![tactic(auto)]

@@ -1,9 +1,9 @@
 //! Lines in, reply lines out, over any reader and writer.
 //!
 //! The program's command line is its user. The contract: `serve` writes the replies to the lines that it reads, which the list
-//! machine may give, and `canon` the canonical texts of the messages that they are, by the definitions in `specs/`. `check` writes the
-//! refusal of each message that is refused alone, with the number of its line, and `serve_strict` what `serve` writes, and counts the
-//! lines that were not taken. What the lines of some bytes are is `mv_engine`, which reads and writes, and what a line asks and a reply
+//! machine may give, and `canon` the canonical texts of the messages that they are, by the definitions in `specs/`. `check` writes
+//! nothing but the refusal of each message that is refused, with the number of its line. `serve_strict` writes what `serve` writes, and
+//! counts the lines that were not taken. What the lines of some bytes are is `mv_engine`, which reads and writes, and what a line asks and a reply
 //! says is `mv_format`: most of what these two give out can be reached here too. This crate knows no thread and no word of the command
 //! line.
 //!

@@ -7,7 +7,7 @@ use crate::sentence;
 use std::alloc::{AllocError, Global};
 
 /// Why codes are not explained.
-#[derive(Clone, Copy, Debug, PartialEq, Eq)]
+#[derive(Clone, Copy, PartialEq, Eq)]
 pub enum ExplainFault<'a> {
     /// The first of the words that is no code.
     NoCode(&'a str),

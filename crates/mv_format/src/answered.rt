@@ -7,7 +7,7 @@ use mv_machine::{Refusal, Reply, Step};
 
 /// What came of a line that isn't empty. The reply to it says this, and all that looks at lines and at what became of them begins
 /// with it.
-#[derive(Debug, Drop)]
+#[derive(Drop)]
 pub enum Answered {
     /// The line asks nothing: M1 to M8, or M9 where memory was refused. Nothing changed.
     Unread(LineFault),

@@ -9,7 +9,7 @@ use crate::line_part::LineObject;
 use crate::{LineFault, LineField};
 
 /// What a line asks, which its field `do` names.
-#[derive(Clone, Copy, Debug, PartialEq, Eq)]
+#[derive(Clone, Copy, PartialEq, Eq)]
 pub(crate) enum LineKind {
     /// `open`: a system of these parties and limits.
     Open,

@@ -13,7 +13,7 @@ use std::alloc::Global;
 use std::marker::Model;
 
 /// A list of markets for each party, party 0 first.
-#[derive(Debug, Drop)]
+#[derive(Drop)]
 pub struct MarketLists {
     lists: Vec<Vec<Market>>,
 }

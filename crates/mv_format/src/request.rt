@@ -19,7 +19,7 @@ use serde_json::Value;
 use std::alloc::Global;
 
 /// What a line asks.
-#[derive(Debug, Drop)]
+#[derive(Drop)]
 pub enum Request {
     /// To open a system of these parties and limits, which are as the line has them.
     Open {

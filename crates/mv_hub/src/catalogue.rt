@@ -12,7 +12,7 @@ use mv_pack::{Batch, Expiry};
 use std::marker::Model;
 
 /// Batches of a product, each with its expiry: a small type over `Vec`, which contracts see as a list.
-#[derive(Debug, Drop)]
+#[derive(Drop)]
 pub struct Pairs {
     /// The pairs, in order.
     pub(crate) list: Vec<(Batch, Expiry)>,
@@ -58,7 +58,7 @@ impl Eq for Pairs {
 }
 
 /// The product of a master, if there is one. It is lent from the master, which is kept once with all others that hold it.
-#[derive(Debug, Drop)]
+#[derive(Drop)]
 pub struct MasterProduct {
     /// The master that the product is lent from.
     master: Option<Shared<Message>>,
@@ -118,7 +118,7 @@ impl Eq for MasterProduct {
 }
 
 /// What the hub knows of a product.
-#[derive(Debug, PartialEq, Eq, Drop)]
+#[derive(PartialEq, Eq, Drop)]
 pub struct Catalogue {
     /// The product of its last routed master, if there is one.
     pub product: MasterProduct,

@@ -3,7 +3,7 @@
 use mv_message::{Message, Party, Shared};
 
 /// An entry of the record.
-#[derive(Debug, PartialEq, Eq, Drop)]
+#[derive(PartialEq, Eq, Drop)]
 pub enum Entry {
     /// The hub routed a message: the `k`-th of the party `from`, counted from one.
     Routed {

@@ -11,7 +11,6 @@ use mv_link::{PARTIES_LIMIT, PartySet, Reach};
 use mv_message::{Markets, Party};
 use mv_pack::Market;
 use std::alloc::{AllocError, Global};
-use std::fmt;
 use std::marker::Model;
 
 /// The parties, 1 to 64 of them, and the markets that each serves. No market is served twice.
@@ -34,12 +33,6 @@ impl Model for Parties {
 
     ghost invariant = { λ p. (1 ≤ length p.lists.items) × (length p.lists.items ≤ PARTIES_LIMIT)
         × AreNoted p.lists.items p.table.noted };
-}
-
-impl fmt::Debug for Parties {
-    fn fmt<W: fmt::Write>(&self, f: &mut fmt::Formatter<W>) -> fmt::Result {
-        fmt::Debug::fmt(&self.lists, f)
-    }
 }
 
 impl Parties {

@@ -15,7 +15,7 @@ use std::marker::Model;
 use std::mem::ManuallyDrop;
 
 /// Lines of a run that were not taken: refused by an M, C, H or O, or by S14.
-#[derive(Clone, Copy, Debug, PartialEq, Eq)]
+#[derive(Clone, Copy, PartialEq, Eq)]
 pub struct Untaken {
     /// How many they are.
     pub count: u32,
@@ -24,7 +24,7 @@ pub struct Untaken {
 }
 
 /// How a strict run ended.
-#[derive(Clone, Copy, Debug, PartialEq, Eq)]
+#[derive(Clone, Copy, PartialEq, Eq)]
 pub struct StrictRun {
     /// Whether a fault ended it.
     pub ended: Result<(), ServeFault>,

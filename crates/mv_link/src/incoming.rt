@@ -22,7 +22,7 @@ pub enum Look {
 }
 
 /// The receiving end of one link, seen as how many frames it accepted.
-#[derive(Clone, Copy, Debug, PartialEq, Eq)]
+#[derive(Clone, Copy, PartialEq, Eq)]
 pub struct Incoming {
     /// How many frames were accepted.
     count: u32,

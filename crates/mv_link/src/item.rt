@@ -6,7 +6,7 @@ use crate::{LinkFault, Reached};
 use mv_message::{Message, Shared};
 
 /// What a link carries from its sender.
-#[derive(Debug, PartialEq, Eq, Drop)]
+#[derive(PartialEq, Eq, Drop)]
 pub enum Item {
     /// To the sender itself: its `k`-th message, counted from one, was routed.
     Receipt {
@@ -51,7 +51,7 @@ impl Item {
 }
 
 /// An item under its number on its link, counted from one.
-#[derive(Debug, PartialEq, Eq, Drop)]
+#[derive(PartialEq, Eq, Drop)]
 pub struct Frame {
     /// The place of the item among all that were pushed on the link, from one.
     pub number: u32,

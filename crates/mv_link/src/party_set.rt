@@ -8,7 +8,7 @@ use arrayvec::ArrayVec;
 use mv_message::Party;
 
 /// A set of parties. It takes no memory.
-#[derive(Clone, Copy, Debug)]
+#[derive(Clone, Copy)]
 pub struct PartySet {
     /// The bit at the place of a party, counted from the lowest, says whether the set has it.
     bits: u64,

@@ -9,7 +9,7 @@ use mv_message::Party;
 use std::marker::Model;
 
 /// A set of parties, in ascending order. It takes no memory of its own.
-#[derive(Clone, Debug, PartialEq, Eq, Drop)]
+#[derive(Clone, PartialEq, Eq, Drop)]
 pub struct Reach {
     /// The parties, ascending.
     parties: ArrayVec<Party, PARTIES_LIMIT>,

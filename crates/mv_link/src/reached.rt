@@ -9,7 +9,7 @@ use crate::{PartySet, Reach};
 use std::marker::Model;
 
 /// The parties that a message reached. It takes no memory. Contracts see the list of them, ascending.
-#[derive(Debug, Drop)]
+#[derive(Drop)]
 pub struct Reached {
     /// These parties.
     parties: PartySet,

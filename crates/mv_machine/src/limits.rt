@@ -15,7 +15,7 @@ pub const WIRE_LIMIT: u32 = 64;
 pub const UPLINK_LIMIT: u32 = 64;
 
 /// How much a system holds at most.
-#[derive(Clone, Copy, Debug, PartialEq, Eq)]
+#[derive(Clone, Copy, PartialEq, Eq)]
 pub struct Limits {
     /// How many items each link keeps.
     window: u32,

@@ -11,7 +11,7 @@ use mv_repository::{Effect, Joint, Verdict};
 use thiserror::Error;
 
 /// What a step is answered.
-#[derive(Debug, PartialEq, Eq, Drop)]
+#[derive(PartialEq, Eq, Drop)]
 pub enum Reply {
     /// The message is the `k`-th that the party submitted, counted from one.
     Submitted {

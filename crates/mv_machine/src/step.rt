@@ -4,7 +4,7 @@ use mv_message::{Message, Party, Shared};
 use mv_pack::PackKey;
 
 /// One step of the system.
-#[derive(Debug, PartialEq, Eq, Drop)]
+#[derive(PartialEq, Eq, Drop)]
 pub enum Step {
     /// A party submits a message to the hub.
     Submit {

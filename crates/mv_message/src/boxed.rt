@@ -7,9 +7,15 @@ use std::marker::Model;
 
 /// A value in a place of its own: what has one keeps a pointer to it. Contracts see the value, where of a `Box` they see a
 /// struct that has it.
-#[derive(Debug, Drop)]
 pub struct Boxed<T> {
     value: Box<T>,
+}
+
+// Written here, as that of what is shared is.
+impl<T: Drop> Drop for Boxed<T> {
+    fn drop(self) {
+        let Self { value: _ } = self;
+    }
 }
 
 impl<T> Model for Boxed<T> {

@@ -6,7 +6,7 @@ use crate::Standing;
 use mv_pack::{Batch, Expiry, National};
 
 /// What a repository found of a pack.
-#[derive(Debug, PartialEq, Eq, Drop)]
+#[derive(PartialEq, Eq, Drop)]
 pub enum Found {
     /// It does not hold the pack.
     Absent,

@@ -9,7 +9,6 @@ use std::alloc::{AllocError, Global};
 use std::marker::Model;
 
 /// Markets in the order in which a message names them. One may stand twice.
-#[derive(Debug)]
 pub struct Markets {
     markets: Vec<Market>,
 }

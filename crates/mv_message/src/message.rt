@@ -12,7 +12,7 @@ use std::mem::size_of;
 pub type Party = u32;
 
 /// What is sold under a product code, as its manufacturer describes it.
-#[derive(Debug, PartialEq, Eq, Drop)]
+#[derive(PartialEq, Eq, Drop)]
 pub struct Product {
     /// The scheme of the product code, as `GTIN`.
     pub scheme: Text,
@@ -51,7 +51,7 @@ impl Product {
 }
 
 /// What a party sends.
-#[derive(Debug, PartialEq, Eq, Drop)]
+#[derive(PartialEq, Eq, Drop)]
 pub enum Message {
     /// The product master: what is sold under a product code, and where.
     Master {

@@ -11,7 +11,6 @@ use std::mem::size_of;
 use std::slice;
 
 /// Serial numbers in the order in which a message names them. One may stand twice.
-#[derive(Debug)]
 pub struct Serials {
     numbers: Numbers,
 }
@@ -23,7 +22,7 @@ impl Drop for Serials {
 }
 
 /// How serial numbers are kept: one alone takes no place of its own.
-#[derive(Debug, Drop)]
+#[derive(Drop)]
 enum Numbers {
     /// One serial number.
     One(Serial),

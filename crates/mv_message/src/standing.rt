@@ -3,7 +3,7 @@
 ghost use Rattle.std.specs.Prelude.{◌≡◌};
 
 /// What a pack may be used for. All but the first say that it was decommissioned, and why.
-#[derive(Clone, Copy, Debug, PartialEq, Eq, PartialOrd, Ord, Hash)]
+#[derive(Clone, Copy, PartialEq, Eq)]
 pub enum Standing {
     /// `active`: no change took it out of supply. A recall, a withdrawal or its last day may still keep it from being supplied.
     Active,

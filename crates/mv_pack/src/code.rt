@@ -12,7 +12,6 @@ ghost use Rattle.mv_pack.specs.inside.Code.{is_filled, text_before, IsFilledUp};
 use crate::PackFault;
 use crate::ascii::text_of;
 use std::cmp::Ordering;
-use std::fmt;
 use std::hash::{Hash, Hasher};
 use std::marker::{Model, PhantomData};
 
@@ -30,15 +29,15 @@ pub type Batch = Code<BatchKind>;
 pub type National = Code<NationalKind>;
 
 /// Marks serial numbers.
-#[derive(Clone, Copy, Debug)]
+#[derive(Clone, Copy)]
 pub struct SerialKind;
 
 /// Marks batch numbers.
-#[derive(Clone, Copy, Debug)]
+#[derive(Clone, Copy)]
 pub struct BatchKind;
 
 /// Marks national numbers.
-#[derive(Clone, Copy, Debug)]
+#[derive(Clone, Copy)]
 pub struct NationalKind;
 
 /// A text of 1 to 20 characters of codes, of the kind `K`.
@@ -260,12 +259,5 @@ impl<K> Hash for Code<K> {
         let (front, back) = self.bytes.split_at(16);
         state.write(front);
         state.write(back);
-    }
-}
-
-/// As its text.
-impl<K> fmt::Debug for Code<K> {
-    fn fmt<W: fmt::Write>(&self, f: &mut fmt::Formatter<W>) -> fmt::Result {
-        fmt::Debug::fmt(self.as_str(), f)
     }
 }

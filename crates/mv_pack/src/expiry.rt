@@ -15,7 +15,7 @@ use std::marker::Model;
 const SECONDS_OF_DAY: u64 = 86_400;
 
 /// The last day on which a pack may be supplied (Delegated Regulation (EU) 2016/161, Article 4(b)(v)).
-#[derive(Clone, Copy, Debug, PartialEq, Eq, PartialOrd, Ord, Hash)]
+#[derive(Clone, Copy, PartialEq, Eq, PartialOrd, Ord, Hash)]
 pub struct Expiry {
     /// 2000 to 2099.
     year: u16,

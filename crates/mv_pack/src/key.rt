@@ -5,7 +5,7 @@ ghost use Rattle.std.specs.Prelude.{◌≡◌};
 use crate::{Batch, Gtin, Serial};
 
 /// A pack, by its product code and its serial number; ordered by the bytes of these, in this order.
-#[derive(Debug, PartialEq, Eq, PartialOrd, Ord, Hash, Drop)]
+#[derive(PartialEq, Eq, PartialOrd, Ord, Hash, Drop)]
 pub struct PackKey {
     /// The product code.
     pub gtin: Gtin,
@@ -26,7 +26,7 @@ impl PackKey {
 }
 
 /// A batch of a product, by its product code and its batch number; ordered by the bytes of these, in this order.
-#[derive(Debug, PartialEq, Eq, PartialOrd, Ord, Hash, Drop)]
+#[derive(PartialEq, Eq, PartialOrd, Ord, Hash, Drop)]
 pub struct BatchKey {
     /// The product code.
     pub gtin: Gtin,

@@ -12,7 +12,7 @@ use std::marker::Model;
 pub const MARKETS_LIMIT: usize = 676;
 
 /// A Member State where a product is sold, by its two capital letters, as `FI`.
-#[derive(Clone, Copy, Debug, PartialEq, Eq, PartialOrd, Ord, Hash)]
+#[derive(Clone, Copy, PartialEq, Eq, PartialOrd, Ord, Hash)]
 pub struct Market {
     /// The letters, `A` to `Z`.
     letters: [u8; 2],

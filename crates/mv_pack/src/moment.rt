@@ -10,7 +10,7 @@ use std::marker::Model;
 pub const YEAR_2100: u64 = 4_102_444_800;
 
 /// A moment from 1970 to 2099, in whole seconds since 1970-01-01T00:00:00Z.
-#[derive(Clone, Copy, Debug, PartialEq, Eq, PartialOrd, Ord, Hash)]
+#[derive(Clone, Copy, PartialEq, Eq, PartialOrd, Ord, Hash)]
 pub struct Moment {
     /// The seconds since 1970, fewer than [`YEAR_2100`].
     seconds: u64,

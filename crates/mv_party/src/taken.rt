@@ -3,7 +3,7 @@
 use mv_repository::Effect;
 
 /// What was done with a frame.
-#[derive(Clone, Copy, Debug, PartialEq, Eq)]
+#[derive(Clone, Copy, PartialEq, Eq)]
 pub enum Taken {
     /// Its item was applied to this effect, and the answer that it calls for is the party's submission of this number.
     Applied { effect: Effect, answer: Option<u32> },

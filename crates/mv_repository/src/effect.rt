@@ -4,7 +4,7 @@ ghost use Rattle.std.specs.Prelude.{◌≡◌};
 ghost use Rattle.mv_repository.specs.Clauses.{code_of};
 
 /// What applying an item did, by the entries that stand before it in the order of stamps.
-#[derive(Clone, Copy, Debug, PartialEq, Eq)]
+#[derive(Clone, Copy, PartialEq, Eq)]
 pub enum Effect {
     /// E1: what the message asked was done.
     Done,

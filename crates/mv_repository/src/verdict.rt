@@ -7,7 +7,7 @@ use crate::state::is_active;
 use mv_message::{Found, Standing};
 
 /// Whether a pack is authentic.
-#[derive(Clone, Copy, Debug, PartialEq, Eq)]
+#[derive(Clone, Copy, PartialEq, Eq)]
 pub enum Verdict {
     /// The pack stands active: its identifier is a right one. A recall of its batch, or a withdrawal of its product, does not change that.
     Authentic,
@@ -16,7 +16,7 @@ pub enum Verdict {
 }
 
 /// What one repository says of a pack.
-#[derive(Clone, Copy, Debug, PartialEq, Eq)]
+#[derive(Clone, Copy, PartialEq, Eq)]
 pub enum Local {
     /// It holds the pack, and this is its verdict.
     Known(Verdict),
@@ -25,7 +25,7 @@ pub enum Local {
 }
 
 /// What all repositories that were asked say of a pack.
-#[derive(Clone, Copy, Debug, PartialEq, Eq)]
+#[derive(Clone, Copy, PartialEq, Eq)]
 pub enum Joint {
     /// No receipt of such a query was applied.
     NotAsked,

@@ -13,7 +13,7 @@ use std::alloc::{AllocError, Global};
 use std::marker::Model;
 
 /// What the words ask for.
-#[derive(Debug, Drop)]
+#[derive(Drop)]
 pub enum Task<'a> {
     /// `steps`: to answer steps, a line each.
     Steps,
@@ -40,7 +40,7 @@ pub enum Task<'a> {
 }
 
 /// The words behind `explain`, in their order, seen as their bytes.
-#[derive(Debug, Drop)]
+#[derive(Drop)]
 pub struct Codes<'a> {
     /// The words.
     words: Vec<&'a str>,

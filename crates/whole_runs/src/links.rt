@@ -6,7 +6,7 @@ use mv_pack::{Batch, BatchKey, Gtin, Moment};
 use std::alloc::Global;
 
 /// Which batches are linked.
-#[derive(Clone, Copy, Debug, PartialEq, Eq)]
+#[derive(Clone, Copy, PartialEq, Eq)]
 pub enum Shape {
     /// Each to the next.
     Chain,

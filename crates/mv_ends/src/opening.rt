@@ -35,7 +35,6 @@ struct Opened {
 
 /// The ends of a system where nothing has happened: the hub's, and that of each repository, in order of party. There is a ring
 /// for the uplink of each party, and one for each ordered pair, of the sizes that the limits give. Refused for want of memory.
-#[tactic(auto, using(crate::proofs::OpeningLemmas::square_of))]
 pub fn open(
     alloc: Global,
     parties: Parties,

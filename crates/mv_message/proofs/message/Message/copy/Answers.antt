@@ -14,3 +14,12 @@ returns-in_ok-after-in-Repack-clause-copy c = grind (arith, c.in-Repack.is, c.in
 
 pub returns-in-Answer-clause-copy : goal.returns-in-Answer-clause-copy
 returns-in-Answer-clause-copy c = rw c.in-Answer.is (rw c.copy-in-Answer.ensures (rw c.copy-in-Answer-2.ensures refl))
+
+pub returns-in-Recall-clause-copy : goal.returns-in-Recall-clause-copy
+returns-in-Recall-clause-copy c = rw c.in-Recall.is (rw c.copy-in-Recall.ensures refl)
+
+pub returns-in-Withdraw-clause-copy : goal.returns-in-Withdraw-clause-copy
+returns-in-Withdraw-clause-copy c = rw c.in-Withdraw.is refl
+
+pub returns-in-Query-clause-copy : goal.returns-in-Query-clause-copy
+returns-in-Query-clause-copy c = rw c.in-Query.is (rw c.copy-in-Query.ensures refl)

@@ -51,3 +51,7 @@ returns-in_err-taken c =
     (apply_refused _ from to frame.number frame.item (look_at (count_from site.log from) frame.number) c.is_uplink_full-uplink_full.result site c.in_err-taken.field-0.0 both
     (front_seen k.are_wires from to both c.at.result.now c.at.ensures (Some frame) front) (front_item k.are_wires from to both c.at.result.now c.at.ensures frame front)
     refl (rw (← c.self.view_is) at c.is_uplink_full-uplink_full.ensures) here c.in_err-taken.ensures.fault (λ same. c.in_err-taken.ensures.memory (ap Err same)))
+
+pub invariant_of-self : goal.invariant_of-self
+invariant_of-self c =
+    rw (c.in_err-taken.ensures.err, site_back c.self.inside.sites.items c.args.to c.index_mut-site.result.now c.index_mut-site.ensures.value) c.self.invariant

@@ -17,3 +17,6 @@ invariant_of-self-2 c =
     ∙ ap (slice_get site.submissions) (sym c.routed_count-place.ensures.value) ∙ sym c.submission.ensures ∙ ap option_copied c.in-Some.is in
     rw c.in_ok-k.ensures.ok (changed (routed from message (ltb-true from (length hub.parties) party) waits c.in_ok-k.ensures.fault) c.self.invariant
     (wires_entered (next_entry hub from message) c.self.invariant.are_wires))
+
+pub invariant_of-self : goal.invariant_of-self
+invariant_of-self c = rw c.in_err-k.ensures.err c.self.invariant

@@ -1,5 +1,5 @@
 use Rattle.mv_system.proofs.Words.{no_answer, submit-free}
-use Rattle.mv_system.proofs.SystemLemmas.{submitted_kept}
+use Rattle.mv_system.proofs.SystemLemmas.{site_back, submitted_kept}
 use Rattle.mv_system.proofs.world.World.submit.Goals as goal
 
 pub invariant_of-self-2 : goal.invariant_of-self-2
@@ -10,3 +10,7 @@ invariant_of-self-2 c =
     let free = submit-free full site message c.in_ok-k.ensures.fault in
     submitted_kept c.args.from message full site c.submit.new.self c.self.invariant c.self.view_is (rw c.is_party.ensures at c.if-not-is_party.false)
     c.is_uplink_full-uplink_full.ensures c.index_mut-site.ensures.value c.in_ok-k.ensures.ok (no_answer message free.0) free.1
+
+pub invariant_of-self : goal.invariant_of-self
+invariant_of-self c =
+    rw (c.in_err-k.ensures.err, site_back c.self.inside.sites.items c.args.from c.index_mut-site.result.now c.index_mut-site.ensures.value) c.self.invariant

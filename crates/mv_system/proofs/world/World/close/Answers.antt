@@ -10,3 +10,6 @@ invariant_of-self-2 c =
     let told : (from < length hub.parties) × (to < length hub.parties) × (is_open hub.entries from to ≡ true) =
     grind (arith, nat_tests, c.in_ok-close.ensures.fault) in
     rw c.in_ok-close.ensures.ok (changed (closed from to told.0 told.1 told.2) c.self.invariant (wires_entered (Closed from to) c.self.invariant.are_wires))
+
+pub invariant_of-self : goal.invariant_of-self
+invariant_of-self c = rw c.in_err-close.ensures.err c.self.invariant

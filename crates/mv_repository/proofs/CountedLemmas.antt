@@ -34,14 +34,14 @@ distinct-append (one ∷ es) fs d e h =
 module _ (log : List LogEntry) where
   -- the packs on a shelf, and on all, each with what is kept of it
   abbrev packs_of : List ℕ → ShelfParts → List Slot → List (PackKey × Kept)
-  packs_of gtin parts slots = map (λ slot. (pack_key gtin (serial_of log parts.slots.table.names slot), kept_by parts.tracks (Some slot))) slots
+  packs_of gtin parts slots = map (λ slot. (pack_key gtin (serial_of log parts.table.names slot), kept_by parts.tracks (Some slot))) slots
 
   abbrev packs_in : List (List ℕ × ShelfParts) → List (PackKey × Kept)
-  packs_in shelves = flat_map (λ shelf. packs_of shelf.0 shelf.1 shelf.1.slots.table.slots) shelves
+  packs_in shelves = flat_map (λ shelf. packs_of shelf.0 shelf.1 shelf.1.table.slots) shelves
 
   -- these slots of a shelf by their serial numbers
   abbrev keyed_on : ShelfParts → List Slot → List (List ℕ × Slot)
-  keyed_on parts slots = keyed log parts.slots.table.names slots
+  keyed_on parts slots = keyed log parts.table.names slots
 
   shelf-found : (gtin : List ℕ) (parts : ShelfParts) (slots : List Slot) (q : PackKey) → lookup (is_same_pack q) (packs_of gtin parts slots)
       ≡ cond (bytes_eq q.gtin gtin) (option_map (λ slot. kept_by parts.tracks (Some slot)) (lookup (bytes_eq q.serial) (keyed_on parts slots))) None
@@ -53,7 +53,7 @@ module _ (log : List LogEntry) where
   unfolding IsDistinct
   shelf-distinct gtin parts [] d = tt
   shelf-distinct gtin parts (slot ∷ slots) d =
-      let serial = serial_of log parts.slots.table.names slot in
+      let serial = serial_of log parts.table.names slot in
       let none = absent (bytes_eq serial) (keyed_on parts slots) d.0 in
       let away = absent_from_lookup (is_same_pack (pack_key gtin serial)) (packs_of gtin parts slots) (grind (arith, nat_tests, none, shelf-found)) in
       (away, shelf-distinct gtin parts slots d.1)
@@ -78,12 +78,12 @@ module _ (log : List LogEntry) where
       grind (arith, nat_tests, behind, elsewhere rest q, later s rest d q.gtin, lookup-append, shelf-found)
 
   packs-distinct : (shelves : List (List ℕ × ShelfParts)) → IsDistinct bytes_eq (keys_of shelves)
-      → AllByRecursion (λ shelf. AreSlots log shelf.1.slots.table) shelves → IsDistinct is_same_pack (keys_of (packs_in shelves))
+      → AllByRecursion (λ shelf. AreSlots log shelf.1.table) shelves → IsDistinct is_same_pack (keys_of (packs_in shelves))
   unfolding IsDistinct
   packs-distinct [] d are = tt
   packs-distinct (s ∷ rest) d are =
-      let own = shelf-distinct s.0 s.1 s.1.slots.table.slots are.0.distinct in
-      distinct-append (packs_of s.0 s.1 s.1.slots.table.slots) (packs_in rest) own (packs-distinct rest d.1 are.1)
+      let own = shelf-distinct s.0 s.1 s.1.table.slots are.0.distinct in
+      distinct-append (packs_of s.0 s.1 s.1.table.slots) (packs_in rest) own (packs-distinct rest d.1 are.1)
       (λ q m. elsewhere rest q (later s rest d q.gtin (grind (arith, nat_tests, shelf-found))))
 
   module _ (counted : Counted) where
@@ -115,10 +115,10 @@ module _ (log : List LogEntry) where
     all-counted tables are d =
         let shelves = tables.shelves.entries in
         let test : PackKey → Bool = λ pack. is_counted counted (track_of pack log) in
-        let distinct = packs-distinct shelves d (recursion_from_All (λ shelf. AreSlots log shelf.1.slots.table) shelves (λ k s l.
+        let distinct = packs-distinct shelves d (recursion_from_All (λ shelf. AreSlots log shelf.1.table) shelves (λ k s l.
         let own = get_or shelves k s in
         let there = lookup-from_Contains nat_list_eq_equiv own.0 own.1 shelves d (All-contains_itself shelves k s l) in
-        subst (λ (o : Option ShelfParts). AreSlots log (unwrap_or o no_shelf).slots.table) there (are.shelves own.0).slots)) in
+        subst (λ (o : Option ShelfParts). AreSlots log (unwrap_or o no_shelf).table) there (are.shelves own.0).slots)) in
         let same : (q : PackKey) → is_member is_same_pack (keys_of (shown (packs_in shelves))) q ≡ is_member is_same_pack (filter test (uploaded_packs log)) q =
         λ q. sym (is_some-lookup (is_same_pack q) (shown (packs_in shelves)))
         ∙ ap is_some (lookup-filter-values pack-equiv (is_counted counted) q (packs_in shelves) distinct)

@@ -42,13 +42,13 @@ no-shelf-yet gtin = record {
 
 -- what is kept on a shelf by the front of a log, is so by all of it
 pub shelf-longer : (whole : List LogEntry) (place : ℕ) (gtin : List ℕ) (parts : ShelfParts) → AreShelfOf (take place whole) gtin parts
-    → AreSlots whole parts.slots.table × IsShelfOf (take place whole) gtin (shelf_by whole parts)
+    → AreSlots whole parts.table × IsShelfOf (take place whole) gtin (shelf_by whole parts)
 shelf-longer whole place gtin parts of =
-    let longer = slots-longer whole place parts.slots.table of.slots in
+    let longer = slots-longer whole place parts.table of.slots in
     (longer.0, subst (λ (slots : List (List ℕ × Slot)). IsShelfOf (take place whole) gtin (record { slots = slots; tracks = parts.tracks; listing = parts.listing })) (sym longer.1) of.shelf)
 
 -- the same but for the room
-pub shelf-same : (log : List LogEntry) (gtin : List ℕ) (old new : ShelfParts) → new.slots.table ≡ old.slots.table → new.tracks ≡ old.tracks → new.listing ≡ old.listing → AreShelfOf log gtin old → AreShelfOf log gtin new
+pub shelf-same : (log : List LogEntry) (gtin : List ℕ) (old new : ShelfParts) → new.table ≡ old.table → new.tracks ≡ old.tracks → new.listing ≡ old.listing → AreShelfOf log gtin old → AreShelfOf log gtin new
 shelf-same log gtin old new slots tracks listing of = record {
   slots = subst (AreSlots log) (sym slots) of.slots;
   shelf = subst (IsShelfOf log gtin) (λ i. record { slots = keyed log (sym slots i).names (sym slots i).slots; tracks = sym tracks i; listing = sym listing i }) of.shelf;
@@ -56,7 +56,7 @@ shelf-same log gtin old new slots tracks listing of = record {
 
 -- the same of a shelf as it is seen
 pub shelf-seen : {given parts : ShelfParts} (whole : List LogEntry) (place : ℕ) (gtin : List ℕ) → given ≡ parts → AreShelfOf (take place whole) gtin parts
-    → AreSlots whole given.slots.table × IsShelfOf (take place whole) gtin (shelf_by whole given)
+    → AreSlots whole given.table × IsShelfOf (take place whole) gtin (shelf_by whole given)
 shelf-seen {given} whole place gtin e of = shelf-longer whole place gtin given (subst (AreShelfOf (take place whole) gtin) (sym e) of)
 
 pub shelf-kept : (whole : List LogEntry) (place : ℕ) (gtin : List ℕ) (parts : ShelfParts) → AreSamePacks whole (take place whole) gtin → AreShelfOf (take place whole) gtin parts → AreShelfOf whole gtin parts

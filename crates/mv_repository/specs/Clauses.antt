@@ -6,7 +6,7 @@ pub use Rattle.mv_repository.specs.Pack.{code_of, effect_of, ChangeNamesStatus, 
 pub use Rattle.mv_repository.specs.inside.Tables.{AreMastersOf, AreTablesOf, is_master, HasRoom, IsInquiriesOf, has_reply, inquiry_after, query_of}
 pub use Rattle.mv_repository.specs.Order.{Ascends, IsOrderOf, ordered, passes, rank, stands_before}
 pub use Rattle.mv_repository.specs.inside.Shelf.{AreShelfOf, IsAgain, IsPut, IsRefreshed, IsUploadOf, has_number, is_counted, is_in, kept_by, kept_in, lists, may_stop, no_shelf, nothing_kept, shelf_by, slots_counted}
-pub use Rattle.mv_repository.specs.inside.Slots.{AreSlots, IsNamed, IsSpot, IsWritten, Writes, keyed, no_slot, no_slots, serial_of, serials_uploaded}
+pub use Rattle.mv_repository.specs.inside.Slots.{AreSlots, IsNamed, IsSpot, IsWritten, Writes, keyed, no_slot, serial_of, serials_uploaded}
 pub use Rattle.mv_repository.specs.Bearing.{entry_at, entry_of, first_stops, first_upload, is_before, is_status_of, message_in, pack_grown, recalled_batches, standing_at, statuses_of, withdrawn_products}
 pub use Rattle.mv_repository.specs.Verdict.{answer_after, answer_to, found_active, found_explained, found_of, joint_verdict, local_verdict, verdict_when}
 pub use Rattle.std.specs.List.Sorted.{IsPartitionPoint}

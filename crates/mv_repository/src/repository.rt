@@ -124,7 +124,7 @@ impl Repository {
         ensures { record { birth = result.0; statuses = result.1.now; by = result.2; blocks = [] } ≡ track_of key.now self.now.log }
     {
         match self.tables.shelves.get(&key.gtin) {
-            Some(shelf) => shelf.parts(self.log.as_slice(), &key.serial),
+            Some(shelf) => shelf.kept(shelf.find(self.log.as_slice(), &key.serial).slot),
             None => (None, &[], 0),
         }
     }

@@ -4,7 +4,7 @@ use Rattle.mv_repository.specs.Words.{ℕ, List, [], get_or, Bool, true, false, 
 use Rattle.mv_repository.specs.inside.Track.{batch_at, comes_first, made_batch, Kept, Life, life_of, IsKept, IsTrack}
 use Rattle.mv_repository.specs.Bearing.{FirstStops}
 use Rattle.mv_repository.specs.Repository.{serials_of}
-use Rattle.mv_repository.specs.inside.Slots.{AreSlots, RoomySlots, keyed, no_slots}
+use Rattle.mv_repository.specs.inside.Slots.{AreSlots, SlotTable, keyed}
 
 -- nothing is kept
 abbrev pub nothing_kept : Kept
@@ -33,13 +33,14 @@ pub record ShelfTable : Type 0 where
 
 -- the same as it is kept
 pub record ShelfParts : Type 0 where
-  pub slots : RoomySlots
+  pub table : SlotTable
+  pub room : ℕ  -- for so many packs more
   pub tracks : List Kept
   pub listing : ListingTable
 
 -- what is kept so by a log
 abbrev pub shelf_by : List LogEntry → ShelfParts → ShelfTable
-shelf_by log parts = record { slots = keyed log parts.slots.table.names parts.slots.table.slots; tracks = parts.tracks; listing = parts.listing }
+shelf_by log parts = record { slots = keyed log parts.table.names parts.table.slots; tracks = parts.tracks; listing = parts.listing }
 
 -- what is kept of a pack of the product, by its serial number
 abbrev pub kept_in : ShelfTable → List ℕ → Kept
@@ -84,12 +85,12 @@ pub record IsShelfOf (log : List LogEntry) (gtin : List ℕ) (shelf : ShelfTable
 
 -- what is kept on a shelf is that of a product by a log
 pub record AreShelfOf (log : List LogEntry) (gtin : List ℕ) (parts : ShelfParts) : Type 0 where
-  pub slots : AreSlots log parts.slots.table
+  pub slots : AreSlots log parts.table
   pub shelf : IsShelfOf log gtin (shelf_by log parts)
 
 -- a shelf with no pack
 abbrev pub no_shelf : ShelfParts
-no_shelf = record { slots = record { table = no_slots; room = 0 }; tracks = []; listing = record { is_whole = true; numbers = [] } }
+no_shelf = record { table = record { hashes = []; slots = []; names = [] }; room = 0; tracks = []; listing = record { is_whole = true; numbers = [] } }
 
 -- the shelf of a product
 abbrev pub shelf_of : List ℕ → List (List ℕ × ShelfParts) → ShelfParts
@@ -125,4 +126,4 @@ is_counted Active kept = option_map_or (λ birth. birth == kept.by) kept.birth f
 
 -- the slots of the packs on a shelf that are counted
 abbrev pub slots_counted : Counted → ShelfParts → List Slot
-slots_counted counted parts = filter (λ slot. is_counted counted (kept_by parts.tracks (Some slot))) parts.slots.table.slots
+slots_counted counted parts = filter (λ slot. is_counted counted (kept_by parts.tracks (Some slot))) parts.table.slots

@@ -40,15 +40,6 @@ pub record SlotTable : Type 0 where
   pub slots : List Slot
   pub names : List (List ℕ)
 
--- no pack
-abbrev pub no_slots : SlotTable
-no_slots = record { hashes = []; slots = []; names = [] }
-
--- the slots with room for so many packs more
-pub record RoomySlots : Type 0 where
-  pub table : SlotTable
-  pub room : ℕ
-
 -- the slots stand for packs by a log, each for one
 pub record AreSlots (log : List LogEntry) (table : SlotTable) : Type 0 where
   pub hashes : table.hashes ≡ map serial_hash (keys_of (keyed log table.names table.slots))

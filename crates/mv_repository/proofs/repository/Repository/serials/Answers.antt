@@ -6,7 +6,7 @@ pub serials-requires : goal.serials-requires
 serials-requires c =
     let log : c.as_slice.result.now ≡ c.self.inside.log.items = search rules in
     let shelf : shelf_of c.args.gtin.now c.self.inside.tables.shelves.entries ≡ c.in-Some.shelf.now = search rules in
-    subst (λ (one : List LogEntry). AreSlots one c.in-Some.shelf.now.slots.table) (sym log)
+    subst (λ (one : List LogEntry). AreSlots one c.in-Some.shelf.now.table) (sym log)
     (subst (AreShelfOf c.self.inside.log.items c.args.gtin.now) shelf (c.self.invariant.0.shelves c.args.gtin.now)).slots
 
 pub returns-in-Some : goal.returns-in-Some

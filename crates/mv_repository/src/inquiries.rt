@@ -14,7 +14,7 @@ use mv_message::{Message, Party};
 use std::alloc::{AllocError, Global};
 
 /// What is known of a query.
-#[derive(Debug, Drop)]
+#[derive(Drop)]
 struct Inquiry {
     /// The parties that the first receipt of it names, once that has come.
     asked: Option<Reached>,

@@ -31,7 +31,8 @@ fn refresh_track(tracks: &mut Vec<Track>, newest: &Newest<'_>, gtin: &Gtin, numb
         (get_or tracks.old.items other nothing_kept) (get_or tracks.new.items other nothing_kept) }
 {
     if let Some(track) = tracks.get_mut(number) {
-        track.refresh(newest, gtin);
+        let birth = track.birth;
+        track.refresh(newest, gtin, birth);
     }
 }
 
@@ -129,7 +130,7 @@ impl Shelf {
         match slot {
             Some(Slot::Made { place, .. }) => (Some(place), &[], place),
             Some(Slot::Own(number)) => match self.tracks.get(number as usize) {
-                Some(track) => track.parts(),
+                Some(track) => (track.birth, track.statuses.as_slice(), track.by),
                 None => (None, &[], 0),
             },
             None => (None, &[], 0),
@@ -204,7 +205,7 @@ impl Shelf {
             self.put(spot, Slot::Made { index, place });
             return true;
         };
-        self.tracks[number as usize].add_upload(newest, gtin);
+        self.tracks[number as usize].refresh(newest, gtin, Some(newest.place));
         self.listing.note(newest.log, Some(newest.place), number);
         true
     }

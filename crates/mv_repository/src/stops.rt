@@ -12,7 +12,7 @@ use std::alloc::AllocError;
 use std::hash::Hash;
 
 /// How a batch stands.
-#[derive(Clone, Copy, Debug, PartialEq, Eq)]
+#[derive(Clone, Copy)]
 pub struct BatchStanding {
     /// The batch is recalled.
     pub recalled: bool,

@@ -77,7 +77,11 @@ impl Tables {
         };
         match message {
             Message::Master { gtin, .. } => {
-                add_master(&mut self.masters, log, *gtin, place)?;
+                let last = self.masters.get(gtin).copied();
+                if matches!(last, Some(last) if passes(log, place, last)) {
+                    return Ok(Effect::Done);
+                }
+                self.masters.insert(*gtin, place)?;
                 Ok(Effect::Done)
             }
             Message::Upload { gtin, serials, .. } => {
@@ -130,25 +134,4 @@ impl Tables {
         shelf.refresh(&newest, stop);
         Ok(Effect::Done)
     }
-}
-
-/// Adds the newest entry, a master of a code; where it is the last by stamp it is the one that the table finds. Where
-/// memory is refused nothing has changed.
-fn add_master(
-    masters: &mut IndexMap<Gtin, u32>,
-    log: &[LogEntry],
-    gtin: Gtin,
-    place: u32,
-) -> Result<(), AllocError>
-    requires last { length log.now ≡ place + 1 }
-    requires master { is_master gtin (entry_at log.now place).entry.item ≡ true }
-    requires masters { AreMastersOf (take place log.now) masters.old.entries }
-    ensures ok { OnOk result (AreMastersOf log.now masters.new.entries) }
-    ensures err { OnErr result (masters.new.entries ≡ masters.old.entries) }
-{
-    let last = masters.get(&gtin).copied();
-    if !matches!(last, Some(last) if passes(log, place, last)) {
-        masters.insert(gtin, place)?;
-    }
-    Ok(())
 }

@@ -85,12 +85,12 @@ returns-clause-put c =
     let slots = keyed log one.names one.slots in
     let tracks = c.self.inside.tracks.items in
     let number = c.in-Some-Own.number in
-    let track = c.add_upload.new.self in
+    let track = c.refresh.new.self in
     let first : comes_first log place (kept_by tracks (lookup (bytes_eq serial) slots)).birth ≡ true = grind arith in
     subst (λ (parts : ShelfParts). IsPut log stops c.args.gtin.now place serial (shelf_by log parts) (record { slots = slots; tracks = set tracks number track; listing = c.note.new.self })) c.self.view_is (record {
       changed = own-changed log one (are at) tracks c.self.invariant.1 serial number (found at) track c.self.inside.listing c.note.new.self c.note.ensures.kept;
       later = λ e. absurd (true≢false (sym first ∙ e));
       again = λ e. subst (λ (pair : Kept × Kept). IsAgain log stops c.args.gtin.now (Some place) pair.0 pair.1)
-          (λ i. (sym (own-kept log one (are at) tracks c.self.invariant.1 serial number (found at) c.index_mut.result.now c.index_mut.ensures.value) i, sym (own-set log one (are at) tracks c.self.invariant.1 serial number (found at) track) i)) c.add_upload.ensures;
+          (λ i. (sym (own-kept log one (are at) tracks c.self.invariant.1 serial number (found at) c.index_mut.result.now c.index_mut.ensures.value) i, sym (own-set log one (are at) tracks c.self.invariant.1 serial number (found at) track) i)) c.refresh.ensures;
       listed = λ e. subst (λ (slot : Option Slot). IfSome (batch_at log place) (λ batch. is_listed c.note.new.self slot batch ≡ true)) (sym (found at)) c.note.ensures.added;
     })

@@ -30,19 +30,6 @@ pub(crate) struct Block {
     reverters: PartySet,
 }
 
-/// Whose reverts are among the statuses at these places.
-fn reverters_of(log: &[LogEntry], own: &[u32]) -> PartySet
-    ensures { AllByRecursion (λ place. IsCovered result (entry_at log.now place)) own.now }
-{
-    let mut reverters = PartySet::none();
-    for place in own {
-        if is_active(standing_by(log, *place)) {
-            reverters = reverters.with(sender_at(log, *place as usize) % SENDERS);
-        }
-    }
-    reverters
-}
-
 impl Block {
     /// What these statuses do to a pack that comes to them by an entry.
     fn of(basis: &Basis<'_>, by: u32, own: &[u32]) -> Block
@@ -50,12 +37,18 @@ impl Block {
         ensures after { result.after ≡ fold (next_in basis.now) by own.now }
         ensures summary { IsSummary (entry_in basis.now) (next_in basis.now) basis.now.birth result own.now }
     {
+        let mut reverters = PartySet::none();
+        for place in own {
+            if is_active(standing_by(basis.log, *place)) {
+                reverters = reverters.with(sender_at(basis.log, *place as usize) % SENDERS);
+            }
+        }
         let of_active = basis.after(basis.birth, own);
         let mut block = Block {
             count: own.len(),
             of_active,
             after: of_active,
-            reverters: reverters_of(basis.log, own),
+            reverters,
         };
         block.after = block.pass(basis, by, own);
         block

@@ -164,7 +164,11 @@ impl Repository {
         ensures { result ≡ serials_of self.now.log gtin.now }
     {
         match self.tables.shelves.get(gtin) {
-            Some(shelf) => shelf.serials(self.log.as_slice()),
+            Some(shelf) => ProductSerials {
+                log: self.log.as_slice(),
+                names: shelf.names.as_slice(),
+                slots: shelf.slots.as_slice(),
+            },
             None => ProductSerials {
                 log: &[],
                 names: &[],

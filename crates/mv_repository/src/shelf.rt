@@ -1,7 +1,7 @@
 //! What is kept of each pack of one product, by serial numbers alone. This file knows no other product.
 
 ghost use Rattle.std.specs.Prelude.{◌≡◌, ◌<◌, ◌≤◌, ◌+◌, ◌==◌};
-ghost use Rattle.mv_repository.specs.Clauses.{AreShelfOf, AreSlots, AreStopsOf, IfOk, IsNamed, IsPut, IsRefreshed, IsSpot, IsUploadOf, OnErr, OnOk, Some, Writes, [], bare, bytes_eq, comes_first, newest_effect, entry_at, get_or, is_status_of, is_stop, kept_by, kept_in, keys_of, length, may_stop, no_shelf, no_slot, nothing_kept, serial_of, serials_uploaded, shelf_by, slice_get, slots_counted, stopped_product, stops_in, take, true, ℕ};
+ghost use Rattle.mv_repository.specs.Clauses.{AreShelfOf, AreSlots, AreStopsOf, IfOk, IsNamed, IsPut, IsRefreshed, IsSpot, IsUploadOf, OnErr, OnOk, Some, Writes, [], bare, bytes_eq, comes_first, newest_effect, entry_at, get_or, is_status_of, is_stop, kept_by, kept_in, length, may_stop, no_shelf, no_slot, nothing_kept, serial_of, serials_uploaded, shelf_by, slice_get, slots_counted, stopped_product, stops_in, take, true, ℕ};
 
 use crate::entry::comes_first;
 use crate::listing::Listing;
@@ -9,7 +9,7 @@ use crate::slots::{Slot, Spot, serial_of};
 use crate::state::Newest;
 use crate::stops::Stop;
 use crate::track::Track;
-use crate::{Effect, LogEntry, ProductSerials};
+use crate::{Effect, LogEntry};
 use mv_index::{HashIndex, hash_of};
 use mv_pack::{Gtin, PackKey, Serial};
 use std::alloc::{AllocError, Global};
@@ -63,9 +63,9 @@ pub(crate) struct Shelf {
     /// The numbers of the slots, by the hashes of the serial numbers.
     index: HashIndex,
     /// What stands for each serial number that an upload or a status names, in the order in which each came first.
-    slots: Vec<Slot>,
+    pub slots: Vec<Slot>,
     /// The serial numbers of the packs that have a track, by the numbers of these.
-    names: Vec<Serial>,
+    pub names: Vec<Serial>,
     /// The tracks, by their numbers.
     tracks: Vec<Track>,
     /// The numbers of the tracks by batch.
@@ -134,19 +134,6 @@ impl Shelf {
                 None => (None, &[], 0),
             },
             None => (None, &[], 0),
-        }
-    }
-
-    /// The serial numbers that have a slot, in the order in which each came first.
-    #[tactic(auto, using(crate::proofs::SlotLemmas::keys_keyed))]
-    pub fn serials<'a>(&'a self, log: &'a [LogEntry]) -> ProductSerials<'a>
-        requires { AreSlots log.now self.now.table }
-        ensures { result ≡ keys_of (shelf_by log.now self.now).slots }
-    {
-        ProductSerials {
-            log,
-            names: self.names.as_slice(),
-            slots: self.slots.as_slice(),
         }
     }
 

@@ -1,5 +1,5 @@
 -- What a recall and a withdrawal do: their effects, the tables that find the first, and the packs on which they bear.
-use Rattle.mv_repository.proofs.Words.{AreFirstsOf, AreStopsOf, BatchKey, Bool, HasFirst, IfSome, IsShelfOf, Item, List, LogEntry, Option, Own, PackKey, Placed, ShelfTable, Some, Stop, Stops, [], arith, batch_key, bytes_eq, comes_first, common_steps, effect_after, effect_of, entries_before, false, find, first_place, first_stops, first_upload, get_or, is_master, is_recall_of, is_same_batch, is_status_of, is_stop, is_upload_of, is_withdrawal_of, lasting_effect, length, life_of, list_any, lookup, may_stop, nat_tests, next_by, no_entry, not, option_map, ordered, pack_key, place_of, recalled_in, rules, same_text, stopped_product, sym, take, true, true≢false, withdrawn_in, ℕ, ◌+◌, ◌∙◌, ◌∷◌, ◌≡◌}
+use Rattle.mv_repository.proofs.Words.{AreFirstsOf, AreStopsOf, BatchKey, Bool, HasFirst, IfSome, IsShelfOf, Item, List, LogEntry, Option, Own, PackKey, Placed, ShelfTable, Some, Stop, Stops, [], arith, batch_key, bytes_eq, comes_first, common_steps, effect_after, effect_of, entries_before, false, find, first_stops, first_upload, get_or, is_master, is_recall_of, is_same_batch, is_status_of, is_stop, is_upload_of, is_withdrawal_of, lasting_effect, length, life_of, list_any, lookup, may_stop, nat_tests, next_by, no_entry, not, option_map, ordered, pack_key, place_of, recalled_in, rules, same_text, stopped_product, sym, take, true, true≢false, withdrawn_in, ℕ, ◌+◌, ◌∙◌, ◌∷◌, ◌≡◌}
 use Rattle.mv_repository.proofs.BeforeLemmas.{any-before}
 use Rattle.mv_repository.proofs.KeptLemmas.{life_batch, same_batch, batch-self, text-self}
 use Rattle.mv_repository.proofs.OrderLemmas.{ordered-ascends, ordered-below}
@@ -8,6 +8,11 @@ use Rattle.mv_repository.proofs.TableLemmas.{NamesNone, NoPack, at-newest, filte
 use Rattle.mv_repository.proofs.SerialLemmas.{AreSamePacks, serials-at}
 use Rattle.mv_repository.proofs.UploadedLemmas.{first-effect}
 use Rattle.mv_repository.specs.declared.stops.Stop.TheVariants as stops
+
+-- the place of the first that stops so, by the tables
+abbrev pub first_place : Stop → Stops → Option ℕ
+first_place (stops.OfBatch batch) tables = lookup (is_same_batch batch.now) tables.recalls.entries
+first_place (stops.OfProduct gtin) tables = lookup (bytes_eq gtin.now) tables.withdrawals.entries
 
 -- an item is no master
 abbrev pub NoMaster : Item → Type 0

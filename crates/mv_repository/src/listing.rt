@@ -1,7 +1,7 @@
 //! For each batch of a product the numbers of the tracks that may be of it: what a recall has to look at.
 
 ghost use Rattle.std.specs.Prelude.{◌≡◌};
-ghost use Rattle.mv_repository.specs.Clauses.{IfSome, List, MatchOption, OnOk, [], batch_at, has_number, is_in, lists, may_stop, option_and_then, true, ℕ};
+ghost use Rattle.mv_repository.specs.Clauses.{IfSome, List, MatchOption, [], batch_at, has_number, lists, may_stop, option_and_then, true, ℕ};
 
 use crate::LogEntry;
 use crate::entry::message_at;
@@ -71,15 +71,12 @@ impl Listing {
         ensures { MatchOption result ((number : ℕ) → may_stop self.now stop.now number ≡ true)
             (λ numbers. (number : ℕ) → may_stop self.now stop.now number ≡ has_number numbers.now number) }
     {
-        let Stop::OfBatch(key) = *stop else {
-            return None;
-        };
-        if !self.is_whole {
-            return None;
-        }
-        match self.batches.get(&key.batch) {
-            Some(numbers) => Some(numbers.as_slice()),
-            None => Some(&[]),
+        match *stop {
+            Stop::OfBatch(key) if self.is_whole => match self.batches.get(&key.batch) {
+                Some(numbers) => Some(numbers.as_slice()),
+                None => Some(&[]),
+            },
+            _ => None,
         }
     }
 }

@@ -1,12 +1,12 @@
 //! The tables that a repository keeps of its log, and what one more entry does to them.
 
 ghost use Rattle.std.specs.Prelude.{◌≡◌, ◌+◌};
-ghost use Rattle.mv_repository.specs.Clauses.{AnEntry, AreMastersOf, AreTablesOf, IfOk, List, OnErr, OnOk, [], distinct_count, entry_at, filter, is_counted, is_master, is_same_pack, is_stop, length, newest_effect, take, track_of, true, uploaded_packs};
+ghost use Rattle.mv_repository.specs.Clauses.{AnEntry, AreTablesOf, IfOk, List, OnErr, OnOk, [], distinct_count, entry_at, filter, is_counted, is_same_pack, is_stop, length, newest_effect, take, track_of, true, uploaded_packs};
 
 use crate::entry::{message_at, passes};
 use crate::shelf::{Counted, Shelf};
 use crate::state::Newest;
-use crate::stops::{Stop, Stops};
+use crate::stops::{Stop, Stops, add_first};
 use crate::{Effect, LogEntry};
 use indexmap::IndexMap;
 use mv_message::Message;
@@ -120,7 +120,11 @@ impl Tables {
         ensures effect { IfOk result (λ effect. effect ≡ newest_effect log.now place) }
         ensures err { OnErr result (AreTablesOf (take place log.now) self.new) }
     {
-        if !self.stops.add(log, stop, place)? {
+        let is_first = match *stop {
+            Stop::OfBatch(batch) => add_first(&mut self.stops.recalls, log, batch.copy(), place),
+            Stop::OfProduct(gtin) => add_first(&mut self.stops.withdrawals, log, *gtin, place),
+        };
+        if !is_first? {
             return Ok(Effect::Noted);
         }
         let Some(shelf) = self.shelves.get_mut(stop.gtin()) else {

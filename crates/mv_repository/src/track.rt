@@ -70,12 +70,8 @@ impl Track {
         ensures effect { IfOk result (λ effect. effect ≡ newest_effect newest.now.log.now newest.now.place) }
         ensures err { OnErr result (self.new ≡ self.old) }
     {
-        self.statuses.reserve(1)?;
-        // All room is got: nothing fails from here on.
         let at = place_for(newest.log, self.statuses.as_slice(), newest.place);
-        let Ok(()) = self.statuses.insert(at, newest.place) else {
-            unreachable!();
-        };
+        self.statuses.insert(at, newest.place)?;
         let Some(birth) = self.birth else {
             return Ok(Effect::Unknown);
         };

@@ -15,13 +15,10 @@ abbrev pub is_master : List ℕ → Item → Bool
 is_master gtin (Carried k stamp (Master named product)) = bytes_eq named gtin
 is_master gtin _ = false
 
--- the table has, for each code, the place of its last master by stamp order, and nothing where there is none
-abbrev pub AreMastersOf : List LogEntry → List (List ℕ × ℕ) → Type 0
-AreMastersOf log masters = AreFound bytes_eq is_master (λ test. last_or None (filter test (ordered log))) masters
-
 -- the tables are those of a log, and its uploads name so many packs, each as often as it is named
 pub record AreTablesOf (log : List LogEntry) (tables : Tables) : Type 0 where
-  pub masters : AreMastersOf log tables.masters.entries
+  -- for each code the place of its last master by stamp
+  pub masters : AreFound bytes_eq is_master (λ test. last_or None (filter test (ordered log))) tables.masters.entries
   pub stops : AreStopsOf log tables.stops
   pub shelves : (gtin : List ℕ) → AreShelfOf log gtin (shelf_of gtin tables.shelves.entries)
   pub named : tables.named ≡ length (uploaded_packs log)

@@ -1,6 +1,6 @@
 -- The set of the batch has the number, and all that it had.
-use Rattle.mv_repository.proofs.Words.{◌≡◌, ℕ, Bool, List, ListingTable, HashSet, IfSome, Option, Some, arith, bytes_eq, cond, has_number, is_in, lists, lookup, map, nat_tests, rules, same_text, subst, sym, true}
-use Rattle.mv_repository.proofs.SerialLemmas.{listed_in}
+use Rattle.mv_repository.proofs.Words.{◌≡◌, ℕ, Bool, List, ListingTable, HashSet, IfSome, Option, Some, arith, bytes_eq, cond, has_number, lists, lookup, map, nat_tests, rules, same_text, subst, sym, true}
+use Rattle.mv_repository.proofs.SerialLemmas.{is_in, listed_in}
 use Rattle.mv_repository.proofs.listing.Listing.note.Goals as goal
 
 -- the listing of these sets

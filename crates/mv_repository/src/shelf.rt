@@ -1,7 +1,7 @@
 //! What is kept of each pack of one product, by serial numbers alone. This file knows no other product.
 
 ghost use Rattle.std.specs.Prelude.{◌≡◌, ◌<◌, ◌≤◌, ◌+◌, ◌==◌};
-ghost use Rattle.mv_repository.specs.Clauses.{AreShelfOf, AreSlots, AreStopsOf, IfOk, IsNamed, IsPut, IsRefreshed, IsSpot, IsUploadOf, OnErr, OnOk, Some, Writes, [], bare, bytes_eq, comes_first, newest_effect, entry_at, get_or, is_status_of, is_stop, kept_by, kept_in, length, may_stop, no_shelf, no_slot, nothing_kept, serial_of, serials_uploaded, shelf_by, slice_get, slots_counted, stopped_product, stops_in, take, true, ℕ};
+ghost use Rattle.mv_repository.specs.Clauses.{AreShelfOf, AreSlots, AreStopsOf, IfOk, IsNamed, IsPut, IsRefreshed, IsSpot, IsUploadOf, OnErr, OnOk, Some, Writes, [], bare, bytes_eq, comes_first, newest_effect, entry_at, get_or, is_status_of, is_stop, kept_by, kept_in, length, no_shelf, no_slot, nothing_kept, serial_of, serials_uploaded, shelf_by, slice_get, slots_counted, stopped_product, stops_in, take, true, ℕ};
 
 use crate::entry::comes_first;
 use crate::listing::Listing;
@@ -33,24 +33,6 @@ fn refresh_track(tracks: &mut Vec<Track>, newest: &Newest<'_>, gtin: &Gtin, numb
     if let Some(track) = tracks.get_mut(number) {
         let birth = track.birth;
         track.refresh(newest, gtin, birth);
-    }
-}
-
-/// Works out again the tracks that a stop may bear on.
-fn refresh_stopped(tracks: &mut Vec<Track>, listing: &Listing, newest: &Newest<'_>, stop: &Stop<'_>)
-    ensures count { length tracks.new.items ≡ length tracks.old.items }
-    ensures tracks { (number : ℕ) → IsRefreshed newest.now.log.now (stops_in newest.now.log.now newest.now.stops.now) (stopped_product stop.now) (may_stop listing.now stop.now number)
-        (get_or tracks.old.items number nothing_kept) (get_or tracks.new.items number nothing_kept) }
-{
-    let gtin = stop.gtin();
-    let Some(numbers) = listing.of(stop) else {
-        for number in 0..tracks.len() {
-            refresh_track(tracks, newest, gtin, number);
-        }
-        return;
-    };
-    for listed in numbers {
-        refresh_track(tracks, newest, gtin, *listed as usize);
     }
 }
 
@@ -275,6 +257,16 @@ impl Shelf {
         requires shelf { AreShelfOf (take newest.now.place newest.now.log.now) (stopped_product stop.now) self.old }
         ensures { AreShelfOf newest.now.log.now (stopped_product stop.now) self.new }
     {
-        refresh_stopped(&mut self.tracks, &self.listing, newest, stop);
+        let gtin = stop.gtin();
+        let tracks = &mut self.tracks;
+        let Some(numbers) = self.listing.of(stop) else {
+            for number in 0..tracks.len() {
+                refresh_track(tracks, newest, gtin, number);
+            }
+            return;
+        };
+        for listed in numbers {
+            refresh_track(tracks, newest, gtin, *listed as usize);
+        }
     }
 }

@@ -172,12 +172,11 @@ fn pass_on(
 {
     let old = blocks[cut.number];
     let (_, rest) = own.split_at(cut.start);
-    let (some, behind) = rest.split_at(old.count + 1);
+    let (some, mut rest) = rest.split_at(old.count + 1);
     let new = Block::of(basis, cut.by, some);
     blocks[cut.number] = new;
     let mut before = old.after;
     let mut last = new.after;
-    let mut rest = behind;
     for number in cut.number + 1..blocks.len() {
         if last == before {
             return standing;
@@ -219,6 +218,5 @@ pub(crate) fn put_late(
         return (effect, pass_on(basis, own, blocks, at, cut, standing));
     }
     blocks.truncate(cut.number);
-    let (_, rest) = own.split_at(cut.start);
-    (effect, extend(basis, rest, blocks, cut.by))
+    (effect, extend(basis, &own[cut.start..], blocks, cut.by))
 }

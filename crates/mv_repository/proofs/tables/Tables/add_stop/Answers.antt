@@ -1,6 +1,6 @@
 -- The first works out the packs that it may bear on; any other changes none.
 use Rattle.mv_repository.proofs.Lemmas.{◌≡◌, ◌∙◌, AreStopsOf, arith, bytes_eq, comes_first, rules, ap, refl, subst, sym, get_or, take, true, false, Option, None, lookup, unwrap_or, ShelfParts, AreShelfOf, first_place, no_shelf, recall-added, shelf_of, no_entry, stopped_product, shelf-empty, masters-at, shelves-at, named-at, shelved-none, tables-follow, stop-form, stop-does, stop-leaves, stop-away, withdrawal-added}
-use Rattle.mv_repository.proofs.Words.{AreTablesOf, HasFirst, Tables, is_recall_of, is_same_batch, is_withdrawal_of}
+use Rattle.mv_repository.proofs.Words.{AreTablesOf, Bool, effect_of, lasting_effect, not, HasFirst, Tables, is_recall_of, is_same_batch, is_withdrawal_of}
 use Rattle.mv_repository.proofs.tables.Tables.add_stop.Goals.{In_ok-is_first, in-OfBatch, in-OfProduct}
 use Rattle.mv_repository.proofs.tables.Tables.add_stop.Goals as goal
 
@@ -22,6 +22,9 @@ module _ (c : In_ok-is_first) where
 
   first : c.in_ok-is_first.field-0 ≡ comes_first c.args.log.now c.args.place (first_place c.args.stop.now c.args.self.now.stops)
   first = elim c.match-stop.branch [ in-OfBatch w ↦ grind arith | in-OfProduct w ↦ grind arith ]
+
+  effect : (b : Bool) → b ≡ c.in_ok-is_first.field-0 → lasting_effect (not b) ≡ effect_of (take c.args.place c.args.log.now) (get_or c.args.log.now c.args.place no_entry)
+  effect b e = stop-does c.args.log.now c.args.place c.requires.last c.args.self.now.stops c.args.stop.now b c.requires.tables.stops c.requires.stop (e ∙ first)
 
   -- the other tables are those of the log before it
   abbrev was : Tables
@@ -46,9 +49,7 @@ returns-then-not-branch-clause-ok c =
     }
 
 pub returns-then-not-branch-clause-effect : goal.returns-then-not-branch-clause-effect
-returns-then-not-branch-clause-effect c =
-    let at = (goal.at.returns-then-not-branch-clause-effect c).In_ok-is_first in
-    search (rules, stop-does c.args.log.now c.args.place c.requires.last c.args.self.now.stops c.args.stop.now false c.requires.tables.stops c.requires.stop (sym c.if-not-branch.true ∙ first at))
+returns-then-not-branch-clause-effect c = effect (goal.at.returns-then-not-branch-clause-effect c).In_ok-is_first false (sym c.if-not-branch.true)
 
 pub returns-in_default-clause-ok : goal.returns-in_default-clause-ok
 returns-in_default-clause-ok c =
@@ -63,9 +64,7 @@ returns-in_default-clause-ok c =
     (stop-away c.args.log.now c.args.place c.requires.last c.args.stop.now c.requires.stop) (named-at c.args.log.now c.args.place c.requires.last (was at).named form.0.1 (tables at).named)
 
 pub returns-in_default-clause-effect : goal.returns-in_default-clause-effect
-returns-in_default-clause-effect c =
-    let at = (goal.at.returns-in_default-clause-effect c).In_ok-is_first in
-    search (rules, stop-does c.args.log.now c.args.place c.requires.last c.args.self.now.stops c.args.stop.now true c.requires.tables.stops c.requires.stop (sym c.if-not-branch.false ∙ first at))
+returns-in_default-clause-effect c = effect (goal.at.returns-in_default-clause-effect c).In_ok-is_first true (sym c.if-not-branch.false)
 
 pub refresh-requires-clause-stops : goal.refresh-requires-clause-stops
 refresh-requires-clause-stops c = added (goal.at.refresh-requires-clause-stops c).In_ok-is_first
@@ -85,6 +84,4 @@ returns-clause-ok c =
     c.refresh.ensures (stop-away c.args.log.now c.args.place c.requires.last c.args.stop.now c.requires.stop) (named-at c.args.log.now c.args.place c.requires.last (was at).named form.0.1 (tables at).named)
 
 pub returns-clause-effect : goal.returns-clause-effect
-returns-clause-effect c =
-    let at = (goal.at.returns-clause-effect c).In_ok-is_first in
-    search (rules, stop-does c.args.log.now c.args.place c.requires.last c.args.self.now.stops c.args.stop.now true c.requires.tables.stops c.requires.stop (sym c.if-not-branch.false ∙ first at))
+returns-clause-effect c = effect (goal.at.returns-clause-effect c).In_ok-is_first true (sym c.if-not-branch.false)

@@ -130,7 +130,7 @@ impl Repository {
     }
 
     /// What a pack is; none where no upload names it.
-    #[tactic(auto, using(crate::proofs::ActiveLemmas::track_state))]
+    #[tactic(auto, using(crate::proofs::CountedLemmas::track_state))]
     pub fn pack(&self, key: &PackKey) -> Option<Held>
         ensures { result ≡ pack_state key.now self.now.log }
     {

@@ -3,7 +3,7 @@
 //! active, and whose reverts stand in it, since a pack that another changed goes through as it comes.
 
 ghost use Rattle.std.specs.Prelude.{◌≡◌, ◌≤◌, ◌<◌, ◌+◌};
-ghost use Rattle.mv_repository.specs.Clauses.{AllByRecursion, AreBlocks, IsCovered, IsCut, IsFront, IsSummary, List, TheBlock, effect_in, entry_at, fold, get_or, length, next_in, take, without, ℕ};
+ghost use Rattle.mv_repository.specs.Clauses.{AreBlocks, IsCut, IsFront, IsSummary, List, TheBlock, effect_in, entry_at, fold, get_or, length, next_in, take, without, ℕ};
 
 use crate::entry::sender_at;
 use crate::state::{Basis, is_active, standing_by};

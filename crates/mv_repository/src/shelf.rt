@@ -1,7 +1,7 @@
 //! What is kept of each pack of one product, by serial numbers alone. This file knows no other product.
 
 ghost use Rattle.std.specs.Prelude.{◌≡◌, ◌<◌, ◌≤◌, ◌+◌, ◌==◌};
-ghost use Rattle.mv_repository.specs.Clauses.{AreShelfOf, AreSlots, AreStopsOf, IfOk, IsNamed, IsPut, IsRefreshed, IsSpot, IsUploadOf, OnErr, OnOk, Some, Writes, [], bare, bytes_eq, comes_first, newest_effect, entry_at, get_or, is_status_of, is_stop, kept_by, kept_in, length, no_shelf, no_slot, nothing_kept, serial_of, serials_uploaded, shelf_by, slice_get, slots_counted, stopped_product, stops_in, take, true, ℕ};
+ghost use Rattle.mv_repository.specs.Clauses.{AreShelfOf, AreSlots, AreStopsOf, IfOk, IsNamed, IsPut, IsRefreshed, IsSpot, IsUploadOf, OnErr, OnOk, Some, Writes, [], bare, bytes_eq, comes_first, newest_effect, entry_at, filter, get_or, is_counted, is_status_of, is_stop, kept_by, kept_in, length, no_shelf, no_slot, nothing_kept, serial_of, serials_uploaded, shelf_by, slice_get, stopped_product, stops_in, take, true, ℕ};
 
 use crate::entry::comes_first;
 use crate::listing::Listing;
@@ -121,7 +121,7 @@ impl Shelf {
 
     /// How many packs of the product are counted.
     pub fn count(&self, counted: Counted) -> usize
-        ensures { result ≡ length (slots_counted counted self.now) }
+        ensures { result ≡ length (filter (λ slot. is_counted counted (kept_by self.now.tracks (Some slot))) self.now.table.slots) }
     {
         let mut count = 0;
         for slot in self.slots.as_slice() {

@@ -4,7 +4,7 @@ use Rattle.std.specs.Prelude.{◌≡◌, ◌==◌, ◌||◌, ◌<◌, ◌≤◌,
 use Rattle.mv_index.specs.Hashes.{short_hash}
 use Rattle.mv_pack.specs.Code.{code_pieces}
 use Rattle.mv_repository.specs.declared.slots.Spot.{Spot}
-use Rattle.mv_repository.specs.Words.{ℕ, List, [], get_or, Bool, true, false, Option, Some, None, IfSome, bytes_eq, keys_of, lookup, option_and_then, option_map_or, filter, is_some, not, Counted, Active, Every, Slot, Made, Own, list_any, Upload, Item, Carried, LogEntry, insert_key, pack_key, unwrap_or, Stop, OfBatch, OfProduct, length, map, AllByRecursion, IsDistinct}
+use Rattle.mv_repository.specs.Words.{ℕ, List, [], get_or, Bool, true, false, Option, Some, None, IfSome, bytes_eq, keys_of, lookup, option_and_then, option_map_or, is_some, not, Counted, Active, Every, Slot, Made, Own, list_any, Upload, Item, Carried, LogEntry, insert_key, pack_key, unwrap_or, Stop, OfBatch, OfProduct, length, map, AllByRecursion, IsDistinct}
 use Rattle.mv_repository.specs.inside.Track.{batch_at, comes_first, made_batch, Kept, Life, life_of, IsKept, IsTrack}
 use Rattle.mv_repository.specs.Bearing.{FirstStops, entry_at}
 use Rattle.mv_repository.specs.Repository.{serials_of}
@@ -129,14 +129,10 @@ abbrev pub is_listed : ListingTable → Option Slot → List ℕ → Bool
 is_listed listing (Some (Own number)) batch = lists listing batch number
 is_listed listing _ batch = true
 
--- the same by the serial number of the pack
-abbrev pub is_listed_in : ShelfTable → List ℕ → List ℕ → Bool
-is_listed_in shelf serial batch = is_listed shelf.listing (lookup (bytes_eq serial) shelf.slots) batch
-
 -- a pack is kept on a shelf as a log means it, and its track is listed under its batch, which is that of the upload that made it
 pub record IsPackOf (life : Life) (shelf : ShelfTable) (serial : List ℕ) : Type 0 where
   pub kept : IsKept life (kept_in shelf serial)
-  pub listed : IfSome (option_and_then (λ birth. made_batch birth.entry.item) life.birth) (λ batch. is_listed_in shelf serial batch ≡ true)
+  pub listed : IfSome (option_and_then (λ birth. made_batch birth.entry.item) life.birth) (λ batch. is_listed shelf.listing (lookup (bytes_eq serial) shelf.slots) batch ≡ true)
 
 -- a shelf is that of a product by a log: it keeps each pack, and has a slot for each serial number that the log names, in their order
 pub record IsShelfOf (log : List LogEntry) (gtin : List ℕ) (shelf : ShelfTable) : Type 0 where
@@ -172,7 +168,7 @@ pub record IsPut (log : List LogEntry) (stops : FirstStops) (gtin : List ℕ) (p
   pub changed : IsChanged serial old new
   pub later : comes_first log place (kept_in old serial).birth ≡ false → new ≡ old
   pub again : comes_first log place (kept_in old serial).birth ≡ true → IsAgain log stops gtin (Some place) (kept_in old serial) (kept_in new serial)
-  pub listed : comes_first log place (kept_in old serial).birth ≡ true → IfSome (batch_at log place) (λ batch. is_listed_in new serial batch ≡ true)
+  pub listed : comes_first log place (kept_in old serial).birth ≡ true → IfSome (batch_at log place) (λ batch. is_listed new.listing (lookup (bytes_eq serial) new.slots) batch ≡ true)
 
 -- a track was worked out again, or it stays
 abbrev pub IsRefreshed : List LogEntry → FirstStops → List ℕ → Bool → Kept → Kept → Type 0
@@ -183,7 +179,3 @@ IsRefreshed log stops gtin false old new = new ≡ old
 abbrev pub is_counted : Counted → Kept → Bool
 is_counted Every kept = is_some kept.birth
 is_counted Active kept = option_map_or (λ birth. birth == kept.by) kept.birth false
-
--- the slots of the packs on a shelf that are counted
-abbrev pub slots_counted : Counted → ShelfParts → List Slot
-slots_counted counted parts = filter (λ slot. is_counted counted (kept_by parts.tracks (Some slot))) parts.table.slots

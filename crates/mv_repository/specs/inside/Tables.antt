@@ -29,10 +29,6 @@ query_of party sender (Receipt k reach query) = if query && (sender == party) th
 query_of party sender (Carried k stamp (Answer asker q key found)) = if asker == party then Some q else None
 query_of party sender _ = None
 
--- nothing is known of a query
-abbrev pub no_inquiry : Inquiry
-no_inquiry = record { asked = None; active = false; explained = false }
-
 -- it is kept that a party has answered a query
 abbrev pub has_reply : Inquiries → ℕ → ℕ → Bool
 has_reply known q other = list_any (λ reply. (q == reply.0) && (other == reply.1)) known.replies.keys
@@ -58,5 +54,5 @@ inquiry_of party log q = record {
 
 -- what is kept is what a log says of a party's queries, for each query and each other party; of a query that is not kept it says nothing
 pub record IsInquiriesOf (party : ℕ) (log : List LogEntry) (known : Inquiries) : Type 0 where
-  pub inquiries : (q : ℕ) → unwrap_or (lookup (nat_eq q) known.inquiries.entries) no_inquiry ≡ inquiry_of party log q
+  pub inquiries : (q : ℕ) → unwrap_or (lookup (nat_eq q) known.inquiries.entries) (record { asked = None; active = false; explained = false }) ≡ inquiry_of party log q
   pub replies : (q other : ℕ) → has_reply known q other ≡ has_answered party log q other

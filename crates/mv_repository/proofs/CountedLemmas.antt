@@ -1,13 +1,17 @@
--- How many packs of a table are counted.
-use Rattle.mv_repository.proofs.Words.{count_by-le-length, length-filter, All-contains_itself, recursion_from_All, AllByRecursion, AreSlots, AreTablesOf, keyed, length-append, length-keys_of, shelf_by, subst, ◌+◌, Bool, Counted, IsDistinct, IsDistinct-head, IsDistinct-keys_filter, IsDistinct-tail, IsEquivalence, Kept, List, LogEntry, None, Option, PackKey, ShelfParts, Slot, Some, Tables, [], ap, arith, bytes_eq, cond, distinct_count, distinct_count-le, false, filter, filter-append, flat_map, get_or, is_counted, is_member, is_member-filter, is_same_pack, is_some, is_some-lookup, kept_by, kept_in, keys_of, length, length-from_keys, lookup, lookup-filter-values, map, min, nat_list_eq_equiv, nat_tests, no_shelf, nothing_kept, option_filter, option_map, option_or, pack_key, refl, rules, same_text, serial_of, shelf_of, slots_counted, sym, track_of, true, unwrap_or, uploaded_packs, ℕ, ◌&&◌, ◌++◌, ◌-◌, ◌<◌, ◌^◌, ◌∙◌, ◌∷◌, ◌≡◌, absent_from_lookup}
+-- What is kept of a pack says what it is, and whether it is active; and how many packs of a table are counted.
+use Rattle.mv_repository.proofs.Words.{count_by-le-length, length-filter, All-contains_itself, recursion_from_All, AllByRecursion, AreSlots, AreTablesOf, keyed, length-append, length-keys_of, shelf_by, subst, ◌+◌, Bool, Counted, IsDistinct, IsDistinct-head, IsDistinct-keys_filter, IsDistinct-tail, IsEquivalence, Kept, List, LogEntry, None, Option, PackKey, ShelfParts, Slot, Some, Tables, [], ap, arith, bytes_eq, cond, distinct_count, distinct_count-le, false, filter, filter-append, flat_map, get_or, is_counted, is_member, is_member-filter, is_same_pack, is_some, is_some-lookup, kept_by, kept_in, keys_of, length, length-from_keys, lookup, lookup-filter-values, map, min, nat_list_eq_equiv, nat_tests, no_shelf, nothing_kept, option_filter, option_map, option_or, pack_key, refl, rules, same_text, serial_of, shelf_of, sym, track_of, true, unwrap_or, uploaded_packs, ℕ, ◌&&◌, ◌++◌, ◌-◌, ◌<◌, ◌^◌, ◌∙◌, ◌∷◌, ◌≡◌, absent_from_lookup, ◌==◌, ◌⊎◌, cond_both, IfSome, fold, inl, inr, option_map_or, Held, Placed, ordered, is_active, is_done, pack_state, held_of, standing_in, known_at, effect_on, next_by, FirstStops, first_stops, place_of, no_entry, is_upload_of, is_status_of, statuses_of, pack_grown, held_at, option_and_then, Active}
 use Rattle.mv_repository.proofs.KeptLemmas.{same_pack, pack-self, pack-sym}
 use Rattle.mv_repository.proofs.UploadedLemmas.{uploaded-found}
 use Rattle.std.proofs.lemmas.Map.Views.{lookup-from_Contains}
+use Rattle.mv_repository.proofs.OrderLemmas.{Stand, find-true, ordered-ascends, ordered-stand}
+use Rattle.mv_repository.proofs.StateLemmas.{known-grown, entry-stands, find-stand, grown-by}
+use Rattle.mv_repository.proofs.TableLemmas.{filter-stand}
+use Rattle.mv_repository.proofs.TrackLemmas.{fold-stands}
 
 -- how many packs are counted, by what is kept on the shelves
 abbrev pub slots_in : Counted → List (List ℕ × ShelfParts) → ℕ
 slots_in counted [] = 0
-slots_in counted (shelf ∷ rest) = length (slots_counted counted shelf.1) + slots_in counted rest
+slots_in counted (shelf ∷ rest) = length (filter (λ slot. is_counted counted (kept_by shelf.1.tracks (Some slot))) shelf.1.table.slots) + slots_in counted rest
 
 pack-equiv : IsEquivalence is_same_pack
 pack-equiv = search (rules, pack-sym)
@@ -34,14 +38,14 @@ distinct-append (one ∷ es) fs d e h =
 module _ (log : List LogEntry) where
   -- the packs on a shelf, and on all, each with what is kept of it
   abbrev packs_of : List ℕ → ShelfParts → List Slot → List (PackKey × Kept)
-  packs_of gtin parts slots = map (λ slot. (pack_key gtin (serial_of log parts.slots.table.names slot), kept_by parts.tracks (Some slot))) slots
+  packs_of gtin parts slots = map (λ slot. (pack_key gtin (serial_of log parts.table.names slot), kept_by parts.tracks (Some slot))) slots
 
   abbrev packs_in : List (List ℕ × ShelfParts) → List (PackKey × Kept)
-  packs_in shelves = flat_map (λ shelf. packs_of shelf.0 shelf.1 shelf.1.slots.table.slots) shelves
+  packs_in shelves = flat_map (λ shelf. packs_of shelf.0 shelf.1 shelf.1.table.slots) shelves
 
   -- these slots of a shelf by their serial numbers
   abbrev keyed_on : ShelfParts → List Slot → List (List ℕ × Slot)
-  keyed_on parts slots = keyed log parts.slots.table.names slots
+  keyed_on parts slots = keyed log parts.table.names slots
 
   shelf-found : (gtin : List ℕ) (parts : ShelfParts) (slots : List Slot) (q : PackKey) → lookup (is_same_pack q) (packs_of gtin parts slots)
       ≡ cond (bytes_eq q.gtin gtin) (option_map (λ slot. kept_by parts.tracks (Some slot)) (lookup (bytes_eq q.serial) (keyed_on parts slots))) None
@@ -53,7 +57,7 @@ module _ (log : List LogEntry) where
   unfolding IsDistinct
   shelf-distinct gtin parts [] d = tt
   shelf-distinct gtin parts (slot ∷ slots) d =
-      let serial = serial_of log parts.slots.table.names slot in
+      let serial = serial_of log parts.table.names slot in
       let none = absent (bytes_eq serial) (keyed_on parts slots) d.0 in
       let away = absent_from_lookup (is_same_pack (pack_key gtin serial)) (packs_of gtin parts slots) (grind (arith, nat_tests, none, shelf-found)) in
       (away, shelf-distinct gtin parts slots d.1)
@@ -78,12 +82,12 @@ module _ (log : List LogEntry) where
       grind (arith, nat_tests, behind, elsewhere rest q, later s rest d q.gtin, lookup-append, shelf-found)
 
   packs-distinct : (shelves : List (List ℕ × ShelfParts)) → IsDistinct bytes_eq (keys_of shelves)
-      → AllByRecursion (λ shelf. AreSlots log shelf.1.slots.table) shelves → IsDistinct is_same_pack (keys_of (packs_in shelves))
+      → AllByRecursion (λ shelf. AreSlots log shelf.1.table) shelves → IsDistinct is_same_pack (keys_of (packs_in shelves))
   unfolding IsDistinct
   packs-distinct [] d are = tt
   packs-distinct (s ∷ rest) d are =
-      let own = shelf-distinct s.0 s.1 s.1.slots.table.slots are.0.distinct in
-      distinct-append (packs_of s.0 s.1 s.1.slots.table.slots) (packs_in rest) own (packs-distinct rest d.1 are.1)
+      let own = shelf-distinct s.0 s.1 s.1.table.slots are.0.distinct in
+      distinct-append (packs_of s.0 s.1 s.1.table.slots) (packs_in rest) own (packs-distinct rest d.1 are.1)
       (λ q m. elsewhere rest q (later s rest d q.gtin (grind (arith, nat_tests, shelf-found))))
 
   module _ (counted : Counted) where
@@ -115,10 +119,10 @@ module _ (log : List LogEntry) where
     all-counted tables are d =
         let shelves = tables.shelves.entries in
         let test : PackKey → Bool = λ pack. is_counted counted (track_of pack log) in
-        let distinct = packs-distinct shelves d (recursion_from_All (λ shelf. AreSlots log shelf.1.slots.table) shelves (λ k s l.
+        let distinct = packs-distinct shelves d (recursion_from_All (λ shelf. AreSlots log shelf.1.table) shelves (λ k s l.
         let own = get_or shelves k s in
         let there = lookup-from_Contains nat_list_eq_equiv own.0 own.1 shelves d (All-contains_itself shelves k s l) in
-        subst (λ (o : Option ShelfParts). AreSlots log (unwrap_or o no_shelf).slots.table) there (are.shelves own.0).slots)) in
+        subst (λ (o : Option ShelfParts). AreSlots log (unwrap_or o no_shelf).table) there (are.shelves own.0).slots)) in
         let same : (q : PackKey) → is_member is_same_pack (keys_of (shown (packs_in shelves))) q ≡ is_member is_same_pack (filter test (uploaded_packs log)) q =
         λ q. sym (is_some-lookup (is_same_pack q) (shown (packs_in shelves)))
         ∙ ap is_some (lookup-filter-values pack-equiv (is_counted counted) q (packs_in shelves) distinct)
@@ -144,3 +148,53 @@ held-all log = ap (distinct_count is_same_pack) (all-pass (uploaded_packs log) (
         → filter (λ pack. is_some (track_of pack log).birth) xs ≡ xs
     all-pass [] h = refl
     all-pass (x ∷ xs) h = grind (arith, nat_tests, all-pass xs (λ q m. h q (grind (arith, nat_tests))), pack-self)
+
+-- a pack is held, and active
+abbrev is_held_active : Option Held → Bool
+is_held_active held = option_map_or (λ (pack : Held). is_active pack.standing) held false
+
+-- a pack stands by its upload, or by a status that is no revert
+abbrev Settled : Placed → Placed → Type 0
+Settled birth by = (by ≡ birth) ⊎ (is_active (standing_in by.entry.item) ≡ false)
+
+fold-settled : (stops : FirstStops) (gtin : List ℕ) (birth by : Placed) (xs : List Placed) → Settled birth by → Settled birth (fold (next_by stops gtin (Some birth)) by xs)
+fold-settled stops gtin birth by [] s = s
+fold-settled stops gtin birth by (x ∷ xs) s = grind (arith, nat_tests, fold-settled stops gtin birth (next_by stops gtin (Some birth) by x) xs (cond_both (is_done (effect_on stops gtin birth by x)) (cond (is_active (standing_in x.entry.item)) birth x) by (Settled birth) (λ d. cond_both (is_active (standing_in x.entry.item)) birth x (Settled birth) (λ a. inl refl) inr) (λ d. s)))
+
+module _ (log : List LogEntry) (pack : PackKey) where
+  abbrev own : List Placed
+  own = statuses_of pack (ordered log)
+
+  abbrev S : FirstStops
+  S = first_stops (ordered log)
+
+  own-stand : Stand log own
+  own-stand = filter-stand (λ placed. is_status_of pack placed.entry.item) log (ordered log) (ordered-stand log)
+
+  abbrev last : Option Placed → ℕ
+  last birth = option_map_or (λ b. (fold (next_by S pack.gtin birth) b own).place) birth 0
+
+  of-birth : (birth : Option Placed) → IfSome birth (λ x. get_or log x.place no_entry ≡ x.entry)
+      → option_and_then (λ (first : ℕ). held_at log first (last birth)) (option_map place_of birth) ≡ option_map held_of (pack_grown S pack birth own)
+  of-birth None s = refl
+  of-birth (Some y) s =
+      (λ i. option_map held_of (known_at (entry-stands log y s i) (fold-stands log S pack.gtin y own s own-stand i)))
+      ∙ ap (option_map held_of) (sym (grown-by S pack y own))
+
+  -- a pack is what stands by its last step
+  pub track_state : option_and_then (λ (birth : ℕ). held_at log birth (track_of pack log).by) (track_of pack log).birth ≡ pack_state pack log
+  track_state = grind (arith, nat_tests, find-stand, known-grown, of-birth, ordered-ascends, ordered-stand)
+
+  active-birth : (birth : Option Placed) → IfSome birth (λ x. get_or log x.place no_entry ≡ x.entry) → IfSome birth (λ x. is_upload_of pack x.entry.item ≡ true)
+      → option_map_or (λ (first : ℕ). first == last birth) (option_map place_of birth) false ≡ is_held_active (option_map held_of (pack_grown S pack birth own))
+  active-birth None s u = refl
+  active-birth (Some y) s u = grind (arith, nat_tests, fold-settled S pack.gtin y y own (inl refl), fold-stands log S pack.gtin y own s own-stand, grown-by)
+
+  -- it is active where it stands by its upload
+  pub track-active : is_counted Active (track_of pack log) ≡ is_held_active (pack_state pack log)
+  track-active = grind (arith, nat_tests, active-birth, find-stand, find-true (λ placed. is_upload_of pack placed.entry.item) (ordered log), known-grown, ordered-ascends, ordered-stand)
+
+-- the packs that are active, by what is kept and by the log
+pub active-all : (log : List LogEntry) → distinct_count is_same_pack (filter (λ pack. is_counted Active (track_of pack log)) (uploaded_packs log))
+    ≡ distinct_count is_same_pack (filter (λ pack. is_held_active (pack_state pack log)) (uploaded_packs log))
+active-all log i = distinct_count is_same_pack (filter (λ pack. track-active log pack i) (uploaded_packs log))

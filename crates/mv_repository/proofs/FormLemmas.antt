@@ -1,10 +1,10 @@
 -- What the tables are after one more entry, by its form.
-use Rattle.mv_repository.proofs.Words.{◌≡◌, ◌+◌, ℕ, List, bytes_eq, false, length, subst, sym, get_or, take, true, Option, None, Some, Result, OnOk, OnErr, [], Item, Message, Master, Upload, Status, Recall, Withdraw, Product, Standing, CivilDate, BatchKey, PackKey, LogEntry, uploaded_in, uploaded_packs, is_master, is_status_of, IsUploadOf, AreMastersOf, ordered, AreShelfOf, ShelfParts, shelf_of, Stops, first_stops, no_entry, message_in, AreStopsOf, AreTablesOf, Tables, arith, nat_tests, common_steps}
+use Rattle.mv_repository.proofs.Words.{◌≡◌, ◌∙◌, ◌+◌, ℕ, List, bytes_eq, false, length, subst, sym, get_or, take, true, Option, None, Some, Result, OnOk, OnErr, [], Item, Message, Master, Upload, Status, Recall, Withdraw, Product, Standing, CivilDate, BatchKey, PackKey, LogEntry, uploaded_in, uploaded_packs, is_master, is_status_of, IsUploadOf, ordered, AreShelfOf, ShelfParts, shelf_of, Stops, first_stops, no_entry, message_in, AreStopsOf, AreTablesOf, Tables, arith, nat_tests, common_steps}
 use Rattle.mv_repository.proofs.KeptLemmas.{pack-self, text-self}
 use Rattle.mv_repository.proofs.ProductLemmas.{masters-noted}
 use Rattle.mv_repository.proofs.SerialLemmas.{AreSamePacks, IsShelved, serials-at, shelf-kept, shelves-follow}
 use Rattle.mv_repository.proofs.StopLemmas.{NoMaster}
-use Rattle.mv_repository.proofs.TableLemmas.{NoPack, StopsNone, at-newest, first-same, log-split, stops-stay}
+use Rattle.mv_repository.proofs.TableLemmas.{AreMastersOf, NoPack, StopsNone, at-newest, first-same, log-split, stops-stay}
 use Rattle.mv_repository.proofs.UploadLemmas.{life-same}
 
 -- what holds where a call ends well, and what holds where it fails
@@ -70,6 +70,17 @@ module _ (whole : List LogEntry) (place : ℕ) (l : length whole ≡ place + 1) 
 
   pub named-at : (named : ℕ) → uploaded_in entry.item ≡ [] → named ≡ length (uploaded_packs log) → named ≡ length (uploaded_packs whole)
   named-at named none is = at-newest whole place l (λ w n. named ≡ length (uploaded_packs w)) (grind (arith, nat_tests, common_steps))
+
+  -- the tables, where the entry is a master
+  pub tables-mastered : (old new : Tables) (gtin : List ℕ) → is_master gtin entry.item ≡ true → AreTablesOf log old → AreMastersOf whole new.masters.entries
+      → new.stops ≡ old.stops → new.shelves ≡ old.shelves → new.named ≡ old.named → AreTablesOf whole new
+  tables-mastered old new gtin own are masters stops shelves named =
+      let form = master-form gtin entry.item own in record {
+        masters = masters;
+        stops = subst (AreStopsOf whole) (sym stops) (stops-at old.stops form.1 are.stops);
+        shelves = λ other. subst (AreShelfOf whole other) (λ i. shelf_of other (sym shelves i).entries) (shelves-at old.shelves.entries form.0 (same-at form.1) are.shelves other);
+        named = named ∙ named-at old.named form.0.1 are.named;
+      }
 
   -- the tables, where the entry is no master and the shelf of one product is written
   pub tables-follow : (old new : Tables) (gtin : List ℕ) (shelf : ShelfParts) → NoMaster entry.item → AreTablesOf log old → new.masters.entries ≡ old.masters.entries → AreStopsOf whole new.stops

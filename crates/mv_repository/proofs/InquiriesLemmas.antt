@@ -1,9 +1,9 @@
 -- Lemmas on what a log says of its party's queries.
-use Rattle.mv_repository.proofs.Words.{◌≡◌, ◌∷◌, ◌++◌, ◌&&◌, ◌||◌, ◌==◌, arith, nat_tests, ℕ, List, [], ◌∙◌, ap, Bool, false, cond, Option, Some, None, is_some, length, list_any, option_or, option_map_or, or-false, list_any-append, Message, Item, Carried, LogEntry, Inquiries, Inquiry, asked_parties, finding_in, has_answered, found_active, found_explained, joint_verdict, sym, query_of, inquiry_after, lookup, nat_eq, no_inquiry, unwrap_or, has_reply, inquiry_of, IsInquiriesOf, query_reach, verdict_when, not, filter, Decided}
+use Rattle.mv_repository.proofs.Words.{◌≡◌, ◌∷◌, ◌++◌, ◌&&◌, ◌||◌, ◌==◌, arith, nat_tests, ℕ, List, [], ◌∙◌, ap, Bool, false, cond, Option, Some, None, is_some, length, list_any, option_or, option_map_or, or-false, list_any-append, Message, Item, Carried, LogEntry, Inquiries, Inquiry, asked_parties, finding_in, has_answered, found_active, found_explained, joint_verdict, sym, query_of, inquiry_after, lookup, nat_eq, unwrap_or, has_reply, inquiry_of, IsInquiriesOf, query_reach, verdict_when, not, filter, Decided}
 
 -- what is kept of a query, if only nothing
 abbrev pub inquiry_in : Inquiries → ℕ → Inquiry
-inquiry_in known q = unwrap_or (lookup (nat_eq q) known.inquiries.entries) no_inquiry
+inquiry_in known q = unwrap_or (lookup (nat_eq q) known.inquiries.entries) (record { asked = None; active = false; explained = false })
 
 -- a log with one more entry
 abbrev with_entry : List LogEntry → ℕ → Item → List LogEntry

@@ -9,12 +9,9 @@ pub mod SerialLemmas
 pub mod BlockLemmas
 pub mod TrackLemmas
 pub mod UploadLemmas
-pub mod ActiveLemmas
-pub mod AgainLemmas
 pub mod UploadedLemmas
 pub mod SlotLemmas
 pub mod CountedLemmas
-pub mod PacksLemmas
 pub mod StopLemmas
 pub mod FormLemmas
 pub mod ProductLemmas

@@ -1,7 +1,7 @@
 -- Lemmas on the last master of a code, and on the table that finds it.
-use Rattle.mv_repository.proofs.Words.{AreMastersOf, Ascends, Bool, IfSome, Item, List, LogEntry, Master, Message, None, Option, Placed, Product, Some, [], ap, arith, bytes_eq, cond, cond_both, entry_at, false, filter, filter_map, get_or, is_master, is_some, last_or, length, lookup, message_in, nat_tests, no_entry, option_and_then, option_map, option_map_or, ordered, passes, place_of, product_of, product_under, put_in, refl, rules, same_text, sym, take, true, ℕ, ◌+◌, ◌∙◌, ◌∷◌, ◌≡◌}
+use Rattle.mv_repository.proofs.Words.{Ascends, Bool, IfSome, Item, List, LogEntry, Master, Message, None, Option, Placed, Product, Some, [], ap, arith, bytes_eq, cond, cond_both, entry_at, false, filter, filter_map, get_or, is_master, is_some, last_or, length, lookup, message_in, nat_tests, no_entry, option_and_then, option_map, option_map_or, ordered, passes, place_of, product_of, product_under, put_in, refl, rules, same_text, sym, take, true, ℕ, ◌+◌, ◌∙◌, ◌∷◌, ◌≡◌}
 use Rattle.mv_repository.proofs.OrderLemmas.{still-stand, passes_behind, ordered-ascends, ordered-stand, last-all}
-use Rattle.mv_repository.proofs.TableLemmas.{longer, newest, newest-stands, at-newest, filter-ascends, filter-more, filter-none, filter-stand, found-more}
+use Rattle.mv_repository.proofs.TableLemmas.{AreMastersOf, longer, newest, newest-stands, at-newest, filter-ascends, filter-more, filter-none, filter-stand, found-more}
 
 -- the product that a message describes, and that an item does
 abbrev product_of_message : Message → Option Product

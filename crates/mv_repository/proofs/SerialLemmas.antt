@@ -1,6 +1,6 @@
 -- The serial numbers of a product that a log names, after one more entry; and what is kept of all packs, where the shelf of one product is
 -- written.
-use Rattle.mv_repository.proofs.Words.{arith, nat_tests, ◌≡◌, ◌+◌, ◌∷◌, bytes_eq, ℕ, List, [], length, get_or, take, fold, sym, ◌∙◌, ap, subst, true, true≢false, cond, insert_key, Item, Carried, Status, pack_key, PackKey, LogEntry, AreShelfOf, AreSlots, ShelfParts, ShelfTable, Slot, shelf_by, keyed, IsPackOf, IsShelfOf, IsUploadOf, Life, life_of, is_status_of, no_entry, no_shelf, refl, IsDistinct, serials_in, serials_of, ◌||◌, Bool, false, same_text, HashSet, lookup, map, lists, is_in, not, option_map, shelf_of, Some}
+use Rattle.mv_repository.proofs.Words.{arith, nat_tests, ◌≡◌, ◌+◌, ◌∷◌, bytes_eq, ℕ, List, [], length, get_or, take, fold, sym, ◌∙◌, ap, subst, true, true≢false, cond, insert_key, Item, Carried, Status, pack_key, PackKey, LogEntry, AreShelfOf, AreSlots, ShelfParts, ShelfTable, Slot, shelf_by, keyed, IsPackOf, IsShelfOf, IsUploadOf, Life, life_of, is_status_of, no_entry, no_shelf, refl, IsDistinct, serials_in, serials_of, ◌||◌, Bool, false, same_text, HashSet, lookup, map, lists, not, has_number, option_map_or, option_map, shelf_of, Some}
 use Rattle.mv_repository.proofs.KeptLemmas.{same_pack}
 use Rattle.mv_repository.proofs.SlotLemmas.{slots-longer}
 use Rattle.mv_repository.proofs.StoppedLemmas.{once-all}
@@ -42,13 +42,13 @@ no-shelf-yet gtin = record {
 
 -- what is kept on a shelf by the front of a log, is so by all of it
 pub shelf-longer : (whole : List LogEntry) (place : ℕ) (gtin : List ℕ) (parts : ShelfParts) → AreShelfOf (take place whole) gtin parts
-    → AreSlots whole parts.slots.table × IsShelfOf (take place whole) gtin (shelf_by whole parts)
+    → AreSlots whole parts.table × IsShelfOf (take place whole) gtin (shelf_by whole parts)
 shelf-longer whole place gtin parts of =
-    let longer = slots-longer whole place parts.slots.table of.slots in
+    let longer = slots-longer whole place parts.table of.slots in
     (longer.0, subst (λ (slots : List (List ℕ × Slot)). IsShelfOf (take place whole) gtin (record { slots = slots; tracks = parts.tracks; listing = parts.listing })) (sym longer.1) of.shelf)
 
 -- the same but for the room
-pub shelf-same : (log : List LogEntry) (gtin : List ℕ) (old new : ShelfParts) → new.slots.table ≡ old.slots.table → new.tracks ≡ old.tracks → new.listing ≡ old.listing → AreShelfOf log gtin old → AreShelfOf log gtin new
+pub shelf-same : (log : List LogEntry) (gtin : List ℕ) (old new : ShelfParts) → new.table ≡ old.table → new.tracks ≡ old.tracks → new.listing ≡ old.listing → AreShelfOf log gtin old → AreShelfOf log gtin new
 shelf-same log gtin old new slots tracks listing of = record {
   slots = subst (AreSlots log) (sym slots) of.slots;
   shelf = subst (IsShelfOf log gtin) (λ i. record { slots = keyed log (sym slots i).names (sym slots i).slots; tracks = sym tracks i; listing = sym listing i }) of.shelf;
@@ -56,7 +56,7 @@ shelf-same log gtin old new slots tracks listing of = record {
 
 -- the same of a shelf as it is seen
 pub shelf-seen : {given parts : ShelfParts} (whole : List LogEntry) (place : ℕ) (gtin : List ℕ) → given ≡ parts → AreShelfOf (take place whole) gtin parts
-    → AreSlots whole given.slots.table × IsShelfOf (take place whole) gtin (shelf_by whole given)
+    → AreSlots whole given.table × IsShelfOf (take place whole) gtin (shelf_by whole given)
 shelf-seen {given} whole place gtin e of = shelf-longer whole place gtin given (subst (AreShelfOf (take place whole) gtin) (sym e) of)
 
 pub shelf-kept : (whole : List LogEntry) (place : ℕ) (gtin : List ℕ) (parts : ShelfParts) → AreSamePacks whole (take place whole) gtin → AreShelfOf (take place whole) gtin parts → AreShelfOf whole gtin parts
@@ -86,6 +86,10 @@ shelves-follow old new gtin shelf looks whole before shelves now away other = su
     by : (b : Bool) → bytes_eq gtin other ≡ b → AreShelfOf whole other (cond b shelf (shelf_of other old))
     by true e = subst (λ (one : List ℕ). AreShelfOf whole one shelf) (same_text gtin other (sym e)) now
     by false e = away other e (shelf_of other old) (shelves other)
+
+-- a number is in the set of a batch
+abbrev pub is_in : {S : Type 0} → List (List ℕ × HashSet ℕ S) → List ℕ → ℕ → Bool
+is_in {S} sets batch number = option_map_or (λ (set : HashSet ℕ S). has_number set.keys number) (lookup (bytes_eq batch) sets) false
 
 -- sets of numbers by batch, each as a list
 abbrev numbers_in : {S : Type 0} → List (List ℕ × HashSet ℕ S) → List (List ℕ × List ℕ)

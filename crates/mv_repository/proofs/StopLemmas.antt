@@ -1,13 +1,20 @@
--- What a recall and a withdrawal do: their effects, the tables that find the first, and the packs on which they bear.
-use Rattle.mv_repository.proofs.Words.{AreFirstsOf, AreStopsOf, BatchKey, Bool, HasFirst, IfSome, IsShelfOf, Item, List, LogEntry, Option, Own, PackKey, Placed, ShelfTable, Some, Stop, Stops, [], arith, batch_key, bytes_eq, comes_first, common_steps, effect_after, effect_of, entries_before, false, find, first_place, first_stops, first_upload, get_or, is_master, is_recall_of, is_same_batch, is_status_of, is_stop, is_upload_of, is_withdrawal_of, lasting_effect, length, life_of, list_any, lookup, may_stop, nat_tests, next_by, no_entry, not, option_map, ordered, pack_key, place_of, recalled_in, rules, same_text, stopped_product, sym, take, true, true≢false, withdrawn_in, ℕ, ◌+◌, ◌∙◌, ◌∷◌, ◌≡◌}
+-- What a recall and a withdrawal do: their effects, the tables that find the first, and the packs on which they bear, which are worked out
+-- again, also without need.
+use Rattle.mv_repository.proofs.Words.{AreFirstsOf, AreStopsOf, BatchKey, Bool, HasFirst, IfSome, IsShelfOf, Item, List, LogEntry, Option, Own, PackKey, Placed, ShelfTable, Some, Stop, Stops, [], arith, batch_key, bytes_eq, comes_first, common_steps, effect_after, effect_of, entries_before, false, find, first_stops, first_upload, get_or, is_master, is_recall_of, is_same_batch, is_status_of, is_stop, is_upload_of, is_withdrawal_of, lasting_effect, length, life_of, list_any, lookup, may_stop, nat_tests, next_by, no_entry, not, option_map, ordered, pack_key, place_of, recalled_in, rules, same_text, stopped_product, sym, take, true, true≢false, withdrawn_in, ℕ, ◌+◌, ◌∙◌, ◌∷◌, ◌≡◌, None, refl, Slot, Made, stops_in, IsAgain, IsPackOf, IsRefreshed, AreShelfOf, shelf_by, kept_by, no_shelf, nothing_kept, IsKept, Kept, statuses_of}
 use Rattle.mv_repository.proofs.BeforeLemmas.{any-before}
 use Rattle.mv_repository.proofs.KeptLemmas.{life_batch, same_batch, batch-self, text-self}
 use Rattle.mv_repository.proofs.OrderLemmas.{ordered-ascends, ordered-below}
 use Rattle.mv_repository.proofs.StoppedLemmas.{once-all, one-recall, one-withdrawal}
-use Rattle.mv_repository.proofs.TableLemmas.{NamesNone, NoPack, at-newest, filter-none, find-later, find-none, find-some, longer, newest, recalls-stay, withdrawals-stay}
+use Rattle.mv_repository.proofs.TableLemmas.{NamesNone, NoPack, at-newest, filter-none, find-later, find-none, find-some, longer, newest, recalls-stay, withdrawals-stay, log-split}
 use Rattle.mv_repository.proofs.SerialLemmas.{AreSamePacks, serials-at}
 use Rattle.mv_repository.proofs.UploadedLemmas.{first-effect}
 use Rattle.mv_repository.specs.declared.stops.Stop.TheVariants as stops
+use Rattle.mv_repository.proofs.TrackLemmas.{track-is}
+
+-- the place of the first that stops so, by the tables
+abbrev pub first_place : Stop → Stops → Option ℕ
+first_place (stops.OfBatch batch) tables = lookup (is_same_batch batch.now) tables.recalls.entries
+first_place (stops.OfProduct gtin) tables = lookup (bytes_eq gtin.now) tables.withdrawals.entries
 
 -- an item is no master
 abbrev pub NoMaster : Item → Type 0
@@ -139,3 +146,54 @@ module _ (whole : List LogEntry) (place : ℕ) (l : length whole ≡ place + 1) 
       let listed = (of.packs serial).listed in
       at-newest whole place l (λ w n. life_of pack w ≡ life_of pack log) (elsewhere log entry pack (form.2.0 pack) (form.1 batch.now.gtin) (search rules))
   stop-passes (stops.OfProduct gtin) own shelf of serial number found none = absurd (true≢false none)
+
+module _ (whole : List LogEntry) (place : ℕ) (tables : Stops) (gtin : List ℕ) (l : length whole ≡ place + 1) (stops : AreStopsOf whole tables)
+    (none : NoPack (get_or whole place no_entry).item) where
+  abbrev front : List LogEntry
+  front = take place whole
+
+  abbrev IsOf : List LogEntry → List ℕ → Kept → Type 0
+  IsOf log serial = IsKept (life_of (pack_key gtin serial) log)
+
+  first-stays : (serial : List ℕ) → first_upload (pack_key gtin serial) (ordered whole) ≡ first_upload (pack_key gtin serial) (ordered front)
+  first-stays serial = grind (arith, nat_tests, find-none, none.0 (pack_key gtin serial), log-split whole place l)
+
+  own-stay : (serial : List ℕ) → statuses_of (pack_key gtin serial) (ordered whole) ≡ statuses_of (pack_key gtin serial) (ordered front)
+  own-stay serial = grind (arith, nat_tests, filter-none, none.0 (pack_key gtin serial), log-split whole place l)
+
+  is_worked : (serial : List ℕ) (was kept : Kept) → IsOf front serial was → IsAgain whole (stops_in whole tables) gtin was.birth was kept → IsOf whole serial kept
+  is_worked serial was kept e a = grind (arith, nat_tests, track-is whole tables (pack_key gtin serial) kept stops, first-stays, own-stay)
+
+  -- what has no status stands by its upload
+  none-again : (birth : Option ℕ) → IsAgain whole (stops_in whole tables) gtin birth (kept_by [] (option_map (Made 0) birth)) (kept_by [] (option_map (Made 0) birth))
+  none-again birth = grind (arith, nat_tests)
+
+  -- a shelf, where it was looked at some tracks again, and the entry bears on no pack of another
+  pub shelf-again : (looked : ℕ → Bool) (shelf : ShelfTable) (tracks : List Kept)
+      → ((number : ℕ) → IsRefreshed whole (stops_in whole tables) gtin (looked number) (get_or shelf.tracks number nothing_kept) (get_or tracks number nothing_kept))
+      → ((serial : List ℕ) (number : ℕ) → lookup (bytes_eq serial) shelf.slots ≡ Some (Own number) → looked number ≡ false → life_of (pack_key gtin serial) whole ≡ life_of (pack_key gtin serial) front)
+      → IsShelfOf front gtin shelf → IsShelfOf whole gtin (record shelf { tracks = tracks })
+  shelf-again looked shelf tracks again away of = record { packs = pack; serials = of.serials ∙ sym (serials-at whole place gtin [] l (none.2 gtin)) }
+    where
+      by : (serial : List ℕ) (slot : Option Slot) → lookup (bytes_eq serial) shelf.slots ≡ slot
+          → IsOf front serial (kept_by shelf.tracks slot) → IsOf whole serial (kept_by tracks slot)
+      by serial None e kept = is_worked serial nothing_kept nothing_kept kept (none-again None)
+      by serial (Some (Made index first)) e kept = is_worked serial (kept_by [] (Some (Made 0 first))) (kept_by [] (Some (Made 0 first))) kept (none-again (Some first))
+      by serial (Some (Own n)) e kept =
+          let worked = is_worked serial (get_or shelf.tracks n nothing_kept) (get_or tracks n nothing_kept) kept in
+          let same = away serial n e in
+          let r = again n in
+          grind (arith, nat_tests)
+
+      pack : (serial : List ℕ) → IsPackOf (life_of (pack_key gtin serial) whole) (record shelf { tracks = tracks }) serial
+      pack serial = record {
+        kept = by serial (lookup (bytes_eq serial) shelf.slots) refl (of.packs serial).kept;
+        listed = grind (arith, first-stays serial, (of.packs serial).listed);
+      }
+
+  -- a product with no shelf has no pack
+  pub shelf-empty : AreShelfOf front gtin no_shelf → AreShelfOf whole gtin no_shelf
+  shelf-empty of = record {
+    slots = record { hashes = refl; named = tt; distinct = of.slots.distinct };
+    shelf = shelf-again (λ number. true) (shelf_by front no_shelf) [] (λ number. none-again None) (λ serial number e h. absurd (true≢false h)) of.shelf;
+  }

@@ -1,5 +1,5 @@
 -- What the tables are after one more entry of the log.
-use Rattle.mv_repository.proofs.Words.{◌≡◌, ◌+◌, ◌∷◌, ◌++◌, bytes_eq, ℕ, zero, suc, arith, take, List, [], length, get_or, refl, sym, ◌∙◌, ap, Bool, true, false, cond, Option, Some, None, filter, find, map, get_or_push, length-take-le, lookup, option_map, Item, is_same_batch, BatchKey, LogEntry, recalled_in, serials_in, uploaded_in, Placed, passes, put_in, ordered, Ascends, is_recall_of, is_withdrawal_of, withdrawn_in, Stops, first_stops, stops_in, place_of, no_entry, AreFirstsOf, AreStopsOf, comes_first, earlier_place, AreFound, entry_at, PackKey, is_upload_of, is_status_of, nat_tests}
+use Rattle.mv_repository.proofs.Words.{◌≡◌, ◌+◌, ◌∷◌, ◌++◌, bytes_eq, ℕ, zero, suc, arith, take, List, [], length, get_or, refl, sym, ◌∙◌, ap, Bool, true, false, cond, Option, Some, None, filter, find, map, get_or_push, length-take-le, lookup, option_map, Item, is_same_batch, BatchKey, LogEntry, recalled_in, serials_in, uploaded_in, Placed, passes, put_in, ordered, Ascends, is_recall_of, is_withdrawal_of, withdrawn_in, Stops, first_stops, stops_in, place_of, no_entry, AreFirstsOf, AreStopsOf, comes_first, earlier_place, AreFound, entry_at, PackKey, is_upload_of, is_status_of, nat_tests, is_master, last_or}
 use Rattle.mv_repository.proofs.OrderLemmas.{StandsBeforeAll, placed_at, ordered-ascends, ordered-push, Stand, still-stand, filter-all}
 use Rattle.mv_repository.proofs.StateLemmas.{find-stand, find-stands}
 use Rattle.mv_repository.proofs.StoppedLemmas.{once-all, no-recall, no-withdrawal}
@@ -138,3 +138,7 @@ withdrawals-stay log entry places none = firsts-stay bytes_eq is_withdrawal_of w
 
 pub stops-stay : (log : List LogEntry) (entry : LogEntry) (tables : Stops) → StopsNone entry.item → AreStopsOf log tables → AreStopsOf (longer log entry) tables
 stops-stay log entry tables none stops = grind (arith, nat_tests, recalls-stay, withdrawals-stay)
+
+-- the table has, for each code, the place of its last master by stamp order, and nothing where there is none
+abbrev pub AreMastersOf : List LogEntry → List (List ℕ × ℕ) → Type 0
+AreMastersOf log masters = AreFound bytes_eq is_master (λ test. last_or None (filter test (ordered log))) masters

@@ -1,10 +1,10 @@
--- An upload in what is kept of one pack.
+-- An upload in what is kept of one pack; and what bears on one product and no other.
 use Rattle.mv_repository.proofs.Words.{AreStopsOf, Bool, IfSome, IsChanged, IsPackOf, IsPut, IsShelfOf, IsUploadOf, Item, Kept, Life, List, LogEntry, Option, PackKey, Placed, ShelfTable, Some, Stops, [], ap, arith, batch_at, bytes_eq, comes_first, common_steps, cond, earlier_place, false, first_stops, first_upload, get_or, insert_key, is_listed, is_master, is_status_of, is_upload_of, kept_in, length, life_of, list_any, list_any_more, lookup, made_batch, nat_tests, no_entry, option_and_then, option_map, or-false, or-true, ordered, pack_key, place_of, refl, same_text, serials_uploaded, stops_in, subst, sym, take, track_of, true, ℕ, ◌&&◌, ◌+◌, ◌<◌, ◌||◌, ◌∙◌, ◌∷◌, ◌≡◌}
 use Rattle.mv_repository.proofs.KeptLemmas.{life_batch, text-self}
 use Rattle.mv_repository.proofs.OrderLemmas.{ordered-stand}
 use Rattle.mv_repository.proofs.StateLemmas.{find-stand}
 use Rattle.mv_repository.proofs.TableLemmas.{at-newest, longer, find-later, find-none, find-some, filter-none, stops-stay, StopsNone, log-split, first-same}
-use Rattle.mv_repository.proofs.SerialLemmas.{serials-at, status-serials}
+use Rattle.mv_repository.proofs.SerialLemmas.{serials-at, status-serials, AreSamePacks, upload-serials}
 use Rattle.mv_repository.proofs.TrackLemmas.{status-form, track-is}
 
 -- a serial number is among these
@@ -153,3 +153,29 @@ module _ (whole : List LogEntry) (place : ℕ) (pack : PackKey) (l : length whol
           subst (λ (l : Life). IsPackOf l new serial)
           (sym (untouched before (get_or whole place no_entry) (pack_key pack.gtin serial) only.0 (only.1 ∙ (λ i. text-self pack.gtin i && e i)) form.1)
           ∙ ap (life_of (pack_key pack.gtin serial)) (sym (log-split whole place l))) (changed.others serial (life_of (pack_key pack.gtin serial) before) e (are.packs serial))
+
+-- an upload, and a status, of one product bears on no other
+pub upload-away : (whole : List LogEntry) (place : ℕ) (gtin : List ℕ) (serials : List (List ℕ)) → length whole ≡ place + 1 → IsUploadOf (get_or whole place no_entry).item gtin serials
+    → (other : List ℕ) → bytes_eq gtin other ≡ false → AreSamePacks whole (take place whole) other
+upload-away whole place gtin serials l upload other e = (
+  λ serial. ap (life_of (pack_key other serial)) (log-split whole place l) ∙ untouched (take place whole) entry (pack_key other serial) (is serial entry.item upload)
+      ((upload-form entry.item gtin serials upload).0 (pack_key other serial)) (upload-form entry.item gtin serials upload).1,
+  serials-at whole place other [] l (upload-serials other gtin serials entry.item upload ∙ ap (λ b. cond b serials []) e),
+)
+  where
+    entry : LogEntry
+    entry = get_or whole place no_entry
+
+    is : (serial : List ℕ) (item : Item) → IsUploadOf item gtin serials → is_upload_of (pack_key other serial) item ≡ false
+    is serial item u = grind (arith, nat_tests)
+
+pub status-away : (whole : List LogEntry) (place : ℕ) (pack : PackKey) → length whole ≡ place + 1 → is_status_of pack (get_or whole place no_entry).item ≡ true
+    → (other : List ℕ) → bytes_eq pack.gtin other ≡ false → AreSamePacks whole (take place whole) other
+status-away whole place pack l own other e = (
+  λ serial.
+      let form = status-form pack (get_or whole place no_entry).item own in
+      let only = form.0 (pack_key other serial) in
+      ap (life_of (pack_key other serial)) (log-split whole place l)
+      ∙ untouched (take place whole) (get_or whole place no_entry) (pack_key other serial) only.0 (only.1 ∙ (λ i. e i && bytes_eq pack.serial serial)) form.1,
+  serials-at whole place other [] l (status-serials other pack (get_or whole place no_entry).item own ∙ ap (λ b. cond b (pack.serial ∷ []) []) e),
+)

@@ -1,10 +1,10 @@
 -- Uploads: which packs a log names, and how many of those that an upload names are new; and the counts of a log that its tables of keys give.
-use Rattle.mv_repository.proofs.Words.{◌≡◌, ◌+◌, ◌<◌, ◌∷◌, ◌++◌, ◌&&◌, ◌||◌, nat_tests, bytes_eq, ℕ, List, [], length, take, get_or, refl, sym, ◌∙◌, ap, arith, subst, append-nil, length-append, Bool, true, false, cond, not, Option, is_some, find, filter, map, or-false, flat_map-append, length-map, take_more, filter-append, list_any-append, is_member-filter, IsEquivalence, same_text, nat_list_eq_equiv, list_any, flat_map, option_map, distinct_count, is_member, Item, Carried, Upload, is_same_pack, pack_key, PackKey, LogEntry, uploaded_in, uploaded_packs, entries_before, Placed, put_in, ordered, has_pack, known_pack, IsUploadOf, is_before, place_of, comes_first, earlier_place, is_upload_of, track_of, list_any-IsPermutation, Some, length-keys_of, length-from_keys, is_some-lookup, IsDistinct, last_or, lookup, keys_of, is_same_batch, BatchKey, mastered_in, recalled_in, is_master, AreMastersOf, is_recall_of, Stops, AreStopsOf}
+use Rattle.mv_repository.proofs.Words.{◌≡◌, ◌+◌, ◌<◌, ◌∷◌, ◌++◌, ◌&&◌, ◌||◌, nat_tests, bytes_eq, ℕ, List, [], length, take, get_or, refl, sym, ◌∙◌, ap, arith, subst, append-nil, length-append, Bool, true, false, cond, not, Option, is_some, find, filter, map, or-false, flat_map-append, length-map, take_more, filter-append, list_any-append, is_member-filter, IsEquivalence, same_text, nat_list_eq_equiv, list_any, flat_map, option_map, distinct_count, is_member, Item, Carried, Upload, is_same_pack, pack_key, PackKey, LogEntry, uploaded_in, uploaded_packs, entries_before, Placed, put_in, ordered, has_pack, known_pack, IsUploadOf, is_before, place_of, comes_first, earlier_place, is_upload_of, track_of, list_any-IsPermutation, Some, length-keys_of, length-from_keys, is_some-lookup, IsDistinct, last_or, lookup, keys_of, is_same_batch, BatchKey, mastered_in, recalled_in, is_master, is_recall_of, Stops, AreStopsOf}
 use Rattle.mv_repository.proofs.BeforeLemmas.{find-below, known-before, any-find}
 use Rattle.mv_repository.proofs.KeptLemmas.{text-sym, text-self, same_batch}
 use Rattle.mv_repository.proofs.OrderLemmas.{put_in-permutes, find-true, ordered-below, still-stand, by_entries, ordered-push}
 use Rattle.mv_repository.proofs.StateLemmas.{find-stand}
-use Rattle.mv_repository.proofs.TableLemmas.{longer, newest, newest-stands, find-some}
+use Rattle.mv_repository.proofs.TableLemmas.{AreMastersOf, longer, newest, newest-stands, find-some}
 use Rattle.mv_repository.proofs.UploadLemmas.{has, upload-has, has-own}
 
 -- the order of stamps has one of a kind where the log has

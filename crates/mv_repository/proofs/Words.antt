@@ -13,17 +13,16 @@ pub use Rattle.mv_repository.specs.Order.{Ascends, IsOrderOf, Placed, ordered, p
 pub use Rattle.mv_repository.specs.Pack.{ChangeNamesStatus, KnownPack, NamesStatus, batch_standing, change_effect, effect_after, effect_of, entries_before, has_pack, held_of, is_active, is_done, is_recall_of, is_recalled_by, is_withdrawal_of, is_withdrawn_by, known_pack, known_pack_from, lasting_effect, pack_after_item, pack_state}
 pub use Rattle.mv_repository.specs.Repository.{items_from, mastered_in, product_of, product_under, recalled_in, serials_in, serials_of, uploaded_in, uploaded_packs}
 pub use Rattle.mv_repository.specs.Verdict.{asked_parties, finding_in, found_active, found_explained, has_answered, joint_verdict, query_reach, verdict_when}
-pub use Rattle.mv_repository.specs.Words.{Active, BatchStanding, Block, Carried, Counted, Decided, Effect, HashSet, Held, Item, LogEntry, Made, Master, Message, Own, PARTIES_LIMIT, PartySet, Product, Recall, Receipt, Slot, Standing, Status, Stop, Stops, Upload, Withdraw, bytes_eq, insert_all, insert_key, keys_of, lookup, option_and_then, option_map, option_map_or, option_or, slice_get, unwrap_or}
+pub use Rattle.mv_repository.specs.Words.{Active, BatchStanding, Block, Carried, Counted, Decided, Effect, Held, Item, LogEntry, Made, Master, Message, Own, PARTIES_LIMIT, PartySet, Product, Recall, Receipt, Slot, Standing, Status, Stop, Stops, Upload, Withdraw, bytes_eq, insert_all, insert_key, keys_of, lookup, option_and_then, option_map, option_map_or, option_or, slice_get, unwrap_or}
 pub use Rattle.mv_repository.specs.declared.blocks.Cut.{Cut}
 pub use Rattle.mv_repository.specs.declared.blocks.TheConstants.{BLOCK}
 pub use Rattle.mv_repository.specs.declared.history.Places.{Places}
 pub use Rattle.mv_repository.specs.declared.inquiries.Inquiries.{Inquiries}
 pub use Rattle.mv_repository.specs.declared.inquiries.Inquiry.{Inquiry}
 pub use Rattle.mv_repository.specs.declared.tables.Tables.{Tables}
-pub use Rattle.mv_repository.specs.inside.Shelf.{AreShelfOf, IsAgain, IsChanged, IsPackOf, IsPut, IsRefreshed, IsShelfOf, IsUploadOf, ListingTable, ShelfParts, ShelfTable, has_number, is_counted, is_in, is_listed, kept_by, kept_in, lists, may_stop, no_shelf, nothing_kept, shelf_by, shelf_of, slots_counted}
-pub use Rattle.mv_repository.specs.inside.Slots.{AreSlots, IsEntered, IsNamed, IsSpot, IsWritten, RoomySlots, SlotTable, Writes, keyed, no_slot, serial_hash, serial_of, serials_uploaded}
-pub use Rattle.mv_repository.specs.inside.Tables.{AreMastersOf, AreTablesOf, IsInquiriesOf, has_reply, inquiry_after, inquiry_of, is_master, no_inquiry, query_of}
-pub use Rattle.mv_repository.specs.inside.Track.{AreAt, AreBlocks, AreFirstsOf, AreFound, AreStopsOf, HasFirst, IsCovered, IsCut, IsFront, IsKept, IsSummary, IsTrack, Kept, Life, batch_at, change_in, comes_first, earlier_place, effect_from, effect_in, effect_on, entry_in, first_place, held_at, history_at, is_stop, known_at, life_of, made_batch, next_by, next_in, next_place, place_of, standing_in, stopped_product, stops_in, track_of, without}
+pub use Rattle.mv_repository.specs.inside.Shelf.{AreShelfOf, AreSlots, IsEntered, IsNamed, IsSpot, IsWritten, SlotTable, Writes, keyed, no_slot, serial_hash, serial_of, serials_uploaded, IsAgain, IsChanged, IsPackOf, IsPut, IsRefreshed, IsShelfOf, IsUploadOf, ListingTable, ShelfParts, ShelfTable, has_number, is_counted, is_listed, kept_by, kept_in, lists, may_stop, no_shelf, nothing_kept, shelf_by, shelf_of}
+pub use Rattle.mv_repository.specs.inside.Tables.{AreTablesOf, IsInquiriesOf, has_reply, inquiry_after, inquiry_of, is_master, query_of}
+pub use Rattle.mv_repository.specs.inside.Track.{AreAt, AreBlocks, AreFirstsOf, AreFound, AreStopsOf, HasFirst, IsCovered, IsCut, IsFront, IsKept, IsSummary, IsTrack, Kept, Life, batch_at, change_in, comes_first, earlier_place, effect_from, effect_in, effect_on, held_at, history_at, is_stop, known_at, life_of, made_batch, next_by, next_in, next_place, place_of, standing_in, stopped_product, stops_in, track_of, without}
 pub use Rattle.std.proofs.Common.{Bool, IfSome, List, None, OnErr, OnOk, Option, Result, Some, [], ap, append-nil, append_assoc, arith, cond, drop, false, filter, find, fold, get_or, get_or-set_other, inl, inr, insert, is_some, length, length-append, map, min, nat_eq, nat_lt, not, refl, rules, set, subst, suc, sym, take, true, true≢false, zero, ℕ, ◌∙◌}
 pub use Rattle.std.proofs.Math.Bool.{or-false, or-true}
 pub use Rattle.std.proofs.Math.ListN.{drop_of_length-le, length-set}
@@ -42,6 +41,7 @@ pub use Rattle.std.proofs.lemmas.Map.Keys.{IsDistinct-IsPermutation, IsDistinct-
 pub use Rattle.std.proofs.lemmas.Map.Made.{IsDistinct-keys_filter, distinct_count-le, is_member-filter, is_some-lookup, length-from_keys}
 pub use Rattle.std.proofs.lemmas.Option.{get_or_from_slice_get, gets, slice_get-get_or, slice_get_within}
 pub use Rattle.std.specs.Cmp.{IsEquivalence}
+pub use Rattle.std.specs.HashSet.{HashSet}
 pub use Rattle.std.specs.Cmp.Lexicographic.{nat_list_eq_equiv, same_text}
 pub use Rattle.std.specs.List.{AllByRecursion, AllPairs, Contains, cons_option, filter_map, flat_map, last_or, list_any}
 unfoldable pub use Rattle.std.specs.List.{IsDistinct}

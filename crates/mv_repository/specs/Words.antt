@@ -32,7 +32,6 @@ pub use Rattle.mv_repository.specs.declared.verdict.Joint.{Joint}
 pub use Rattle.mv_repository.specs.declared.verdict.Local.{Local}
 pub use Rattle.mv_repository.specs.declared.verdict.Verdict.TheVariants.{Authentic, NotAuthentic}
 pub use Rattle.mv_repository.specs.declared.verdict.Verdict.{Verdict}
-pub use Rattle.std.specs.HashSet.{HashSet}
 pub use Rattle.std.specs.Iterator.{YieldsFirstRef, item_count}
 pub use Rattle.std.specs.List.{AllByRecursion, Contains, IsDistinct, filter_map, flat_map, last_or, list_any}
 pub use Rattle.std.specs.Map.{keys_of, lookup}

@@ -1,5 +1,4 @@
 -- What no clause of a public call names: it is for views, invariants and other ghost members, private functions and proofs.
-pub mod Slots
 pub mod Shelf
 pub mod Tables
 pub mod Track

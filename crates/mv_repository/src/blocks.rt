@@ -3,7 +3,7 @@
 //! active, and whose reverts stand in it, since a pack that another changed goes through as it comes.
 
 ghost use Rattle.std.specs.Prelude.{◌≡◌, ◌≤◌, ◌<◌, ◌+◌};
-ghost use Rattle.mv_repository.specs.Clauses.{AllByRecursion, AreBlocks, IsCovered, IsCut, IsFront, IsSummary, List, TheBlock, effect_in, entry_at, entry_in, fold, get_or, length, next_in, take, without, ℕ};
+ghost use Rattle.mv_repository.specs.Clauses.{AreBlocks, IsCut, IsFront, IsSummary, List, TheBlock, effect_in, entry_at, fold, get_or, length, next_in, take, without, ℕ};
 
 use crate::entry::sender_at;
 use crate::state::{Basis, is_active, standing_by};
@@ -30,32 +30,25 @@ pub(crate) struct Block {
     reverters: PartySet,
 }
 
-/// Whose reverts are among the statuses at these places.
-fn reverters_of(log: &[LogEntry], own: &[u32]) -> PartySet
-    ensures { AllByRecursion (λ place. IsCovered result (entry_at log.now place)) own.now }
-{
-    let mut reverters = PartySet::none();
-    for place in own {
-        if is_active(standing_by(log, *place)) {
-            reverters = reverters.with(sender_at(log, *place as usize) % SENDERS);
-        }
-    }
-    reverters
-}
-
 impl Block {
     /// What these statuses do to a pack that comes to them by an entry.
     fn of(basis: &Basis<'_>, by: u32, own: &[u32]) -> Block
         ensures count { result.count ≡ length own.now }
         ensures after { result.after ≡ fold (next_in basis.now) by own.now }
-        ensures summary { IsSummary (entry_in basis.now) (next_in basis.now) basis.now.birth result own.now }
+        ensures summary { IsSummary (entry_at basis.now.log.now) (next_in basis.now) basis.now.birth result own.now }
     {
+        let mut reverters = PartySet::none();
+        for place in own {
+            if is_active(standing_by(basis.log, *place)) {
+                reverters = reverters.with(sender_at(basis.log, *place as usize) % SENDERS);
+            }
+        }
         let of_active = basis.after(basis.birth, own);
         let mut block = Block {
             count: own.len(),
             of_active,
             after: of_active,
-            reverters: reverters_of(basis.log, own),
+            reverters,
         };
         block.after = block.pass(basis, by, own);
         block
@@ -64,7 +57,7 @@ impl Block {
     /// The place of the entry by which a pack stands behind the statuses of the block that comes to them by another.
     #[tactic(auto, using(crate::proofs::StateLemmas::own_passed, std::proofs::lemmas::Grind::common_steps))]
     fn pass(&self, basis: &Basis<'_>, by: u32, own: &[u32]) -> u32
-        requires { IsSummary (entry_in basis.now) (next_in basis.now) basis.now.birth self.now own.now }
+        requires { IsSummary (entry_at basis.now.log.now) (next_in basis.now) basis.now.birth self.now own.now }
         ensures { result ≡ fold (next_in basis.now) by own.now }
     {
         if by == basis.birth {
@@ -96,8 +89,8 @@ fn cut_at(basis: &Basis<'_>, blocks: &Vec<Block>, at: usize) -> Cut
     ensures at { result.start ≤ at }
     ensures inside { result.number < length blocks.now.items → (block : TheBlock) → block ≡ get_or blocks.now.items result.number block
         → at < result.start + block.count }
-    ensures cut { (own : List ℕ) → AreBlocks (entry_in basis.now) (next_in basis.now) basis.now.birth basis.now.birth blocks.now.items own
-        → IsCut (entry_in basis.now) (next_in basis.now) basis.now.birth blocks.now.items own result }
+    ensures cut { (own : List ℕ) → AreBlocks (entry_at basis.now.log.now) (next_in basis.now) basis.now.birth basis.now.birth blocks.now.items own
+        → IsCut (entry_at basis.now.log.now) (next_in basis.now) basis.now.birth blocks.now.items own result }
 {
     let mut cut = Cut {
         number: 0,
@@ -138,8 +131,8 @@ fn block_size(basis: &Basis<'_>, rest: &[u32]) -> usize
 /// behind all, where it comes to them by another. Where memory is refused for a block, the statuses from there on stand in
 /// none.
 fn extend(basis: &Basis<'_>, own: &[u32], blocks: &mut Vec<Block>, by: u32) -> u32
-    ensures blocks { (all : List ℕ) → IsFront (entry_in basis.now) (next_in basis.now) basis.now.birth blocks.old.items all by own.now
-        → AreBlocks (entry_in basis.now) (next_in basis.now) basis.now.birth basis.now.birth blocks.new.items all }
+    ensures blocks { (all : List ℕ) → IsFront (entry_at basis.now.log.now) (next_in basis.now) basis.now.birth blocks.old.items all by own.now
+        → AreBlocks (entry_at basis.now.log.now) (next_in basis.now) basis.now.birth basis.now.birth blocks.new.items all }
     ensures by { result ≡ fold (next_in basis.now) by own.now }
 {
     let mut last = by;
@@ -172,19 +165,18 @@ fn pass_on(
     requires number { cut.number < length blocks.old.items }
     requires at { cut.start ≤ at }
     requires inside { (block : TheBlock) → block ≡ get_or blocks.old.items cut.number block → at < cut.start + block.count }
-    requires cut { IsCut (entry_in basis.now) (next_in basis.now) basis.now.birth blocks.old.items (without own.now at) cut }
+    requires cut { IsCut (entry_at basis.now.log.now) (next_in basis.now) basis.now.birth blocks.old.items (without own.now at) cut }
     requires standing { standing ≡ fold (next_in basis.now) basis.now.birth (without own.now at) }
-    ensures blocks { AreBlocks (entry_in basis.now) (next_in basis.now) basis.now.birth basis.now.birth blocks.new.items own.now }
+    ensures blocks { AreBlocks (entry_at basis.now.log.now) (next_in basis.now) basis.now.birth basis.now.birth blocks.new.items own.now }
     ensures by { result ≡ fold (next_in basis.now) basis.now.birth own.now }
 {
     let old = blocks[cut.number];
     let (_, rest) = own.split_at(cut.start);
-    let (some, behind) = rest.split_at(old.count + 1);
+    let (some, mut rest) = rest.split_at(old.count + 1);
     let new = Block::of(basis, cut.by, some);
     blocks[cut.number] = new;
     let mut before = old.after;
     let mut last = new.after;
-    let mut rest = behind;
     for number in cut.number + 1..blocks.len() {
         if last == before {
             return standing;
@@ -209,10 +201,10 @@ pub(crate) fn put_late(
     standing: u32,
 ) -> (Effect, u32)
     requires within { at < length own.now }
-    requires blocks { AreBlocks (entry_in basis.now) (next_in basis.now) basis.now.birth basis.now.birth blocks.old.items (without own.now at) }
+    requires blocks { AreBlocks (entry_at basis.now.log.now) (next_in basis.now) basis.now.birth basis.now.birth blocks.old.items (without own.now at) }
     requires standing { standing ≡ fold (next_in basis.now) basis.now.birth (without own.now at) }
     ensures effect { result.0 ≡ effect_in basis.now (fold (next_in basis.now) basis.now.birth (take at own.now)) (get_or own.now at 0) }
-    ensures blocks { AreBlocks (entry_in basis.now) (next_in basis.now) basis.now.birth basis.now.birth blocks.new.items own.now }
+    ensures blocks { AreBlocks (entry_at basis.now.log.now) (next_in basis.now) basis.now.birth basis.now.birth blocks.new.items own.now }
     ensures by { result.1 ≡ fold (next_in basis.now) basis.now.birth own.now }
 {
     let place = own[at];
@@ -226,6 +218,5 @@ pub(crate) fn put_late(
         return (effect, pass_on(basis, own, blocks, at, cut, standing));
     }
     blocks.truncate(cut.number);
-    let (_, rest) = own.split_at(cut.start);
-    (effect, extend(basis, rest, blocks, cut.by))
+    (effect, extend(basis, &own[cut.start..], blocks, cut.by))
 }

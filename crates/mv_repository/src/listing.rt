@@ -1,7 +1,7 @@
 //! For each batch of a product the numbers of the tracks that may be of it: what a recall has to look at.
 
 ghost use Rattle.std.specs.Prelude.{◌≡◌};
-ghost use Rattle.mv_repository.specs.Clauses.{IfSome, List, MatchOption, OnOk, [], batch_at, has_number, is_in, lists, may_stop, option_and_then, true, ℕ};
+ghost use Rattle.mv_repository.specs.Clauses.{IfSome, List, MatchOption, [], batch_at, has_number, lists, may_stop, option_and_then, true, ℕ};
 
 use crate::LogEntry;
 use crate::entry::message_at;
@@ -9,7 +9,7 @@ use crate::stops::Stop;
 use indexmap::{IndexMap, IndexSet};
 use mv_message::Message;
 use mv_pack::Batch;
-use std::alloc::{AllocError, Global};
+use std::alloc::Global;
 use std::marker::Model;
 
 /// The numbers of tracks by batch. Too many are right, and cost time alone. Where memory was refused for one, any track may be of any
@@ -58,9 +58,12 @@ impl Listing {
         let Some(Message::Upload { batch, .. }) = message_at(log, birth as usize) else {
             return;
         };
-        if add_to(self.alloc, &mut self.batches, batch, number).is_err() {
-            self.is_whole = false;
+        if let Ok(numbers) = self.batches.entry(batch.copy())
+            && let Ok(_) = numbers.or_insert(IndexSet::new(self.alloc)).insert(number)
+        {
+            return;
         }
+        self.is_whole = false;
     }
 
     /// The numbers of the tracks that a stop may bear on, each once; none where it may bear on any.
@@ -68,30 +71,12 @@ impl Listing {
         ensures { MatchOption result ((number : ℕ) → may_stop self.now stop.now number ≡ true)
             (λ numbers. (number : ℕ) → may_stop self.now stop.now number ≡ has_number numbers.now number) }
     {
-        let Stop::OfBatch(key) = *stop else {
-            return None;
-        };
-        if !self.is_whole {
-            return None;
-        }
-        match self.batches.get(&key.batch) {
-            Some(numbers) => Some(numbers.as_slice()),
-            None => Some(&[]),
+        match *stop {
+            Stop::OfBatch(key) if self.is_whole => match self.batches.get(&key.batch) {
+                Some(numbers) => Some(numbers.as_slice()),
+                None => Some(&[]),
+            },
+            _ => None,
         }
     }
-}
-
-/// Adds a number to those of a batch. Where memory is refused all that was there still is.
-fn add_to(
-    alloc: Global,
-    batches: &mut IndexMap<Batch, IndexSet<u32>>,
-    batch: &Batch,
-    number: u32,
-) -> Result<(), AllocError>
-    ensures added { OnOk result (is_in batches.new.entries batch.now number ≡ true) }
-    ensures kept { (other : List ℕ) (one : ℕ) → is_in batches.old.entries other one ≡ true → is_in batches.new.entries other one ≡ true }
-{
-    let numbers = batches.entry(batch.copy())?.or_insert(IndexSet::new(alloc));
-    numbers.insert(number)?;
-    Ok(())
 }

@@ -124,13 +124,13 @@ impl Repository {
         ensures { record { birth = result.0; statuses = result.1.now; by = result.2; blocks = [] } ≡ track_of key.now self.now.log }
     {
         match self.tables.shelves.get(&key.gtin) {
-            Some(shelf) => shelf.parts(self.log.as_slice(), &key.serial),
+            Some(shelf) => shelf.kept(shelf.find(self.log.as_slice(), &key.serial).slot),
             None => (None, &[], 0),
         }
     }
 
     /// What a pack is; none where no upload names it.
-    #[tactic(auto, using(crate::proofs::ActiveLemmas::track_state))]
+    #[tactic(auto, using(crate::proofs::CountedLemmas::track_state))]
     pub fn pack(&self, key: &PackKey) -> Option<Held>
         ensures { result ≡ pack_state key.now self.now.log }
     {
@@ -164,7 +164,11 @@ impl Repository {
         ensures { result ≡ serials_of self.now.log gtin.now }
     {
         match self.tables.shelves.get(gtin) {
-            Some(shelf) => shelf.serials(self.log.as_slice()),
+            Some(shelf) => ProductSerials {
+                log: self.log.as_slice(),
+                names: shelf.names.as_slice(),
+                slots: shelf.slots.as_slice(),
+            },
             None => ProductSerials {
                 log: &[],
                 names: &[],

@@ -1,15 +1,16 @@
 //! What is kept of each pack of one product, by serial numbers alone. This file knows no other product.
 
 ghost use Rattle.std.specs.Prelude.{◌≡◌, ◌<◌, ◌≤◌, ◌+◌, ◌==◌};
-ghost use Rattle.mv_repository.specs.Clauses.{AreShelfOf, AreSlots, AreStopsOf, IfOk, IsPut, IsRefreshed, IsUploadOf, OnErr, OnOk, Some, [], bare, comes_first, newest_effect, entry_at, get_or, is_status_of, is_stop, kept_by, kept_in, keys_of, length, may_stop, no_shelf, nothing_kept, serials_uploaded, shelf_by, slice_get, slots_counted, stopped_product, stops_in, take, true, ℕ};
+ghost use Rattle.mv_repository.specs.Clauses.{AreShelfOf, AreSlots, AreStopsOf, IfOk, IsNamed, IsPut, IsRefreshed, IsSpot, IsUploadOf, OnErr, OnOk, Some, Writes, [], bare, bytes_eq, comes_first, newest_effect, entry_at, filter, get_or, is_counted, is_status_of, is_stop, kept_by, kept_in, length, no_shelf, no_slot, nothing_kept, serial_of, serials_uploaded, shelf_by, slice_get, stopped_product, stops_in, take, true, ℕ};
 
 use crate::entry::comes_first;
 use crate::listing::Listing;
-use crate::slots::{Slot, Slots};
+use crate::slots::{Slot, Spot, serial_of};
 use crate::state::Newest;
 use crate::stops::Stop;
 use crate::track::Track;
-use crate::{Effect, LogEntry, ProductSerials};
+use crate::{Effect, LogEntry};
+use mv_index::{HashIndex, hash_of};
 use mv_pack::{Gtin, PackKey, Serial};
 use std::alloc::{AllocError, Global};
 use std::marker::Model;
@@ -30,25 +31,8 @@ fn refresh_track(tracks: &mut Vec<Track>, newest: &Newest<'_>, gtin: &Gtin, numb
         (get_or tracks.old.items other nothing_kept) (get_or tracks.new.items other nothing_kept) }
 {
     if let Some(track) = tracks.get_mut(number) {
-        track.refresh(newest, gtin);
-    }
-}
-
-/// Works out again the tracks that a stop may bear on.
-fn refresh_stopped(tracks: &mut Vec<Track>, listing: &Listing, newest: &Newest<'_>, stop: &Stop<'_>)
-    ensures count { length tracks.new.items ≡ length tracks.old.items }
-    ensures tracks { (number : ℕ) → IsRefreshed newest.now.log.now (stops_in newest.now.log.now newest.now.stops.now) (stopped_product stop.now) (may_stop listing.now stop.now number)
-        (get_or tracks.old.items number nothing_kept) (get_or tracks.new.items number nothing_kept) }
-{
-    let gtin = stop.gtin();
-    let Some(numbers) = listing.of(stop) else {
-        for number in 0..tracks.len() {
-            refresh_track(tracks, newest, gtin, number);
-        }
-        return;
-    };
-    for listed in numbers {
-        refresh_track(tracks, newest, gtin, *listed as usize);
+        let birth = track.birth;
+        track.refresh(newest, gtin, birth);
     }
 }
 
@@ -58,23 +42,32 @@ const MOST_SERIALS: usize = 1 << 16;
 /// What is kept of the packs of a product.
 #[derive(Drop)]
 pub(crate) struct Shelf {
-    /// What stands for each serial number that an upload or a status names, and the numbers of the packs that have a track.
-    slots: Slots,
-    /// The tracks of these, by their numbers.
+    /// The numbers of the slots, by the hashes of the serial numbers.
+    index: HashIndex,
+    /// What stands for each serial number that an upload or a status names, in the order in which each came first.
+    pub slots: Vec<Slot>,
+    /// The serial numbers of the packs that have a track, by the numbers of these.
+    pub names: Vec<Serial>,
+    /// The tracks, by their numbers.
     tracks: Vec<Track>,
     /// The numbers of the tracks by batch.
     listing: Listing,
 }
 
 impl Model for Shelf {
-    ghost use Rattle.std.specs.Prelude.{◌≡◌, length};
+    ghost use Rattle.std.specs.Prelude.{◌≡◌, ◌-◌, length, min, vec_capacity};
     ghost use Rattle.mv_repository.specs.inside.Shelf.{ShelfParts};
 
     ghost Value = { ShelfParts };
 
-    ghost view = { λ a. record { slots = a.slots; tracks = a.tracks.items; listing = a.listing } };
+    ghost view = { λ a. record {
+      table = record { hashes = a.index.hashes; slots = a.slots.items; names = a.names.items };
+      room = min a.index.room (vec_capacity a.slots - length a.slots.items);
+      tracks = a.tracks.items;
+      listing = a.listing;
+    } };
 
-    ghost invariant = { λ a. length a.slots.table.names ≡ length a.tracks.items };
+    ghost invariant = { λ a. (length a.index.hashes ≡ length a.slots.items) × (length a.names.items ≡ length a.tracks.items) };
 }
 
 impl Shelf {
@@ -83,51 +76,55 @@ impl Shelf {
         ensures { result ≡ no_shelf }
     {
         Shelf {
-            slots: Slots::new(alloc),
+            index: HashIndex::new(alloc),
+            slots: Vec::new(alloc),
+            names: Vec::new(alloc),
             tracks: Vec::new(alloc),
             listing: Listing::new(alloc),
         }
     }
 
+    /// Where a serial number stands.
+    pub fn find(&self, log: &[LogEntry], serial: &Serial) -> Spot
+        requires { AreSlots log.now self.now.table }
+        ensures { IsSpot log.now self.now.table serial.now result }
+    {
+        let hash = hash_of(serial);
+        let slots = self.slots.as_slice();
+        let names = self.names.as_slice();
+        let is_it = |number: usize| -> bool
+            requires within { number < length slots.now }
+            requires named { IsNamed log.now names.now (get_or slots.now number no_slot) }
+            ensures { result ≡ bytes_eq (serial_of log.entry.now names.entry.now (get_or slots.entry.now number no_slot)) serial.entry.now }
+        { serial_of(log, names, slots[number]) == serial };
+        let (number, slot) = match self.index.find(hash, is_it) {
+            Some(number) => (number, Some(slots[number])),
+            None => (slots.len(), None),
+        };
+        Spot { hash, number, slot }
+    }
+
     /// What is kept of the pack that a slot stands for: the place of its first upload, its statuses, and the entry by which it
     /// stands.
-    fn kept(&self, slot: Option<Slot>) -> (Option<u32>, &[u32], u32)
+    pub fn kept(&self, slot: Option<Slot>) -> (Option<u32>, &[u32], u32)
         ensures { record { birth = result.0; statuses = result.1.now; by = result.2; blocks = [] } ≡ bare (kept_by self.now.tracks slot) }
     {
         match slot {
             Some(Slot::Made { place, .. }) => (Some(place), &[], place),
             Some(Slot::Own(number)) => match self.tracks.get(number as usize) {
-                Some(track) => track.parts(),
+                Some(track) => (track.birth, track.statuses.as_slice(), track.by),
                 None => (None, &[], 0),
             },
             None => (None, &[], 0),
         }
     }
 
-    /// The upload that made the pack with a serial number, where one did, its statuses, and the entry by which it stands.
-    pub fn parts(&self, log: &[LogEntry], serial: &Serial) -> (Option<u32>, &[u32], u32)
-        requires { AreSlots log.now self.now.slots.table }
-        ensures { record { birth = result.0; statuses = result.1.now; by = result.2; blocks = [] } ≡ bare (kept_in (shelf_by log.now self.now) serial.now) }
-    {
-        self.kept(self.slots.find(log, serial).slot)
-    }
-
-    /// The serial numbers that have a slot, in the order in which each came first.
-    #[tactic(auto, using(crate::proofs::SlotLemmas::keys_keyed))]
-    pub fn serials<'a>(&'a self, log: &'a [LogEntry]) -> ProductSerials<'a>
-        requires { AreSlots log.now self.now.slots.table }
-        ensures { result ≡ keys_of (shelf_by log.now self.now).slots }
-    {
-        self.slots.serials(log)
-    }
-
     /// How many packs of the product are counted.
     pub fn count(&self, counted: Counted) -> usize
-        ensures { result ≡ length (slots_counted counted self.now) }
+        ensures { result ≡ length (filter (λ slot. is_counted counted (kept_by self.now.tracks (Some slot))) self.now.table.slots) }
     {
         let mut count = 0;
-        let slots = self.slots.as_slice();
-        for slot in slots {
+        for slot in self.slots.as_slice() {
             let (birth, _, by) = self.kept(Some(*slot));
             let is_counted = match counted {
                 Counted::Every => birth.is_some(),
@@ -140,29 +137,44 @@ impl Shelf {
         count
     }
 
+    /// Writes the slot of a pack where its serial number stands, or behind all.
+    fn put(&mut self, spot: Spot, slot: Slot)
+        requires room { 0 < self.old.room }
+        ensures others { self.new ≡ record self.old { table = self.new.table; room = self.new.room } }
+        ensures written { Writes spot slot self.old.table self.new.table }
+        ensures room { self.old.room ≤ self.new.room + 1 }
+    {
+        if spot.number < self.slots.len() {
+            self.slots[spot.number] = slot;
+        } else {
+            self.index.push(spot.hash);
+            self.slots.push_reserved(slot);
+        }
+    }
+
     /// Adds the newest entry, an upload, to what is kept of the pack that it names at a place; whether it is the first such by stamp. Where
     /// it is, the pack's track is listed under its batch.
     fn put_upload(&mut self, newest: &Newest<'_>, gtin: &Gtin, serial: &Serial, index: u16) -> bool
-        requires room { 0 < self.old.slots.room }
+        requires room { 0 < self.old.room }
         requires named { slice_get (serials_uploaded (entry_at newest.now.log.now newest.now.place).entry.item) index ≡ Some serial.now }
-        requires slots { AreSlots newest.now.log.now self.old.slots.table }
-        ensures room { self.old.slots.room ≤ self.new.slots.room + 1 }
-        ensures slots { AreSlots newest.now.log.now self.new.slots.table }
+        requires slots { AreSlots newest.now.log.now self.old.table }
+        ensures room { self.old.room ≤ self.new.room + 1 }
+        ensures slots { AreSlots newest.now.log.now self.new.table }
         ensures put { IsPut newest.now.log.now (stops_in newest.now.log.now newest.now.stops.now) gtin.now newest.now.place serial.now
             (shelf_by newest.now.log.now self.old) (shelf_by newest.now.log.now self.new) }
         ensures first { result ≡ comes_first newest.now.log.now newest.now.place (kept_in (shelf_by newest.now.log.now self.old) serial.now).birth }
     {
-        let spot = self.slots.find(newest.log, serial);
+        let spot = self.find(newest.log, serial);
         let (birth, _, _) = self.kept(spot.slot);
         if !comes_first(newest.log, newest.place, birth) {
             return false;
         }
         let Some(Slot::Own(number)) = spot.slot else {
             let place = newest.place;
-            self.slots.put(spot, Slot::Made { index, place });
+            self.put(spot, Slot::Made { index, place });
             return true;
         };
-        self.tracks[number as usize].add_upload(newest, gtin);
+        self.tracks[number as usize].refresh(newest, gtin, Some(newest.place));
         self.listing.note(newest.log, Some(newest.place), number);
         true
     }
@@ -185,8 +197,9 @@ impl Shelf {
         if serials.len() > MOST_SERIALS {
             return Err(AllocError);
         }
+        self.index.reserve(serials.len())?;
         self.slots.reserve(serials.len())?;
-        self.slots.touch(serials);
+        self.index.touch(serials);
         // All room is got: nothing fails from here on. A track that finds no memory to be listed by makes the listing not whole.
         let mut new = 0;
         for index in 0..serials.len() {
@@ -214,18 +227,26 @@ impl Shelf {
         ensures effect { IfOk result (λ effect. effect ≡ newest_effect newest.now.log.now newest.now.place) }
         ensures err { OnErr result (AreShelfOf (take newest.now.place newest.now.log.now) pack.now.gtin self.new) }
     {
-        let spot = self.slots.find(newest.log, &pack.serial);
+        let spot = self.find(newest.log, &pack.serial);
         if let Some(Slot::Own(number)) = spot.slot {
             return self.tracks[number as usize].add_status(newest, pack);
         }
         let (birth, _, _) = self.kept(spot.slot);
+        let number = self.names.len();
+        if number > u32::MAX as usize {
+            return Err(AllocError);
+        }
+        self.index.reserve(1)?;
+        self.slots.reserve(1)?;
+        self.names.reserve(1)?;
         self.tracks.reserve(1)?;
         let mut track = Track::new(alloc, birth);
         let effect = track.add_status(newest, pack)?;
-        let number = self.slots.put_own(spot, &pack.serial)?;
         // All room is got: nothing fails from here on.
-        self.listing.note(newest.log, birth, number);
+        self.names.push_reserved(pack.serial.copy());
         self.tracks.push_reserved(track);
+        self.listing.note(newest.log, birth, number as u32);
+        self.put(spot, Slot::Own(number as u32));
         Ok(effect)
     }
 
@@ -236,6 +257,16 @@ impl Shelf {
         requires shelf { AreShelfOf (take newest.now.place newest.now.log.now) (stopped_product stop.now) self.old }
         ensures { AreShelfOf newest.now.log.now (stopped_product stop.now) self.new }
     {
-        refresh_stopped(&mut self.tracks, &self.listing, newest, stop);
+        let gtin = stop.gtin();
+        let tracks = &mut self.tracks;
+        let Some(numbers) = self.listing.of(stop) else {
+            for number in 0..tracks.len() {
+                refresh_track(tracks, newest, gtin, number);
+            }
+            return;
+        };
+        for listed in numbers {
+            refresh_track(tracks, newest, gtin, *listed as usize);
+        }
     }
 }

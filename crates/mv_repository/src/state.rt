@@ -2,7 +2,7 @@
 //! the pack stands then.
 
 ghost use Rattle.std.specs.Prelude.{◌≡◌, ◌+◌, length};
-ghost use Rattle.mv_repository.specs.Clauses.{change_in, effect_in, entry_at, fold, held_at, is_active, next_in, revert_effect, standing_at, standing_in};
+ghost use Rattle.mv_repository.specs.Clauses.{change_in, effect_in, entry_at, fold, held_at, is_active, next_in, revert_effect, standing_in};
 
 use crate::entry::{message_at, sender_at, stands_before};
 use crate::held::REVERT_SECONDS;

@@ -2,7 +2,7 @@
 //! that of its first withdrawal.
 
 ghost use Rattle.std.specs.Prelude.{◌≡◌, ◌+◌};
-ghost use Rattle.mv_repository.specs.Clauses.{AreStopsOf, HasFirst, IfOk, OnErr, OnOk, comes_first, entry_at, first_place, is_stop, length, lookup, standing_at, stopped_product, stops_in, take, true};
+ghost use Rattle.mv_repository.specs.Clauses.{HasFirst, IfOk, OnErr, OnOk, comes_first, entry_at, lookup, standing_at, stopped_product, stops_in};
 
 use crate::LogEntry;
 use crate::entry::{comes_first, is_before};
@@ -12,7 +12,7 @@ use std::alloc::AllocError;
 use std::hash::Hash;
 
 /// How a batch stands.
-#[derive(Clone, Copy, PartialEq, Eq)]
+#[derive(Clone, Copy)]
 pub struct BatchStanding {
     /// The batch is recalled.
     pub recalled: bool,
@@ -60,28 +60,12 @@ impl Stops {
             withdrawn: is_before(log, self.withdrawals.get(&batch.gtin).copied(), place),
         }
     }
-
-    /// Adds the newest entry, which stops packs for ever; whether it is the first such by stamp. Where memory is refused
-    /// the tables are still those of the log before it.
-    pub fn add(&mut self, log: &[LogEntry], stop: &Stop<'_>, place: u32) -> Result<bool, AllocError>
-        requires last { length log.now ≡ place + 1 }
-        requires stop { is_stop stop.now (entry_at log.now place).entry.item ≡ true }
-        requires stops { AreStopsOf (take place log.now) self.old }
-        ensures ok { OnOk result (AreStopsOf log.now self.new) }
-        ensures first { IfOk result (λ first. first ≡ comes_first log.now place (first_place stop.now self.old)) }
-        ensures err { OnErr result (AreStopsOf (take place log.now) self.new) }
-    {
-        match *stop {
-            Stop::OfBatch(batch) => add_first(&mut self.recalls, log, batch.copy(), place),
-            Stop::OfProduct(gtin) => add_first(&mut self.withdrawals, log, *gtin, place),
-        }
-    }
 }
 
 /// Writes the place of the newest entry into a table where it is the first under its key by stamp; whether it is. Where
 /// memory is refused nothing has changed.
 #[tactic(auto, using(crate::proofs::StoppedLemmas::key_stays, crate::proofs::StoppedLemmas::key_added))]
-fn add_first<K: Eq + Hash + Drop>(
+pub(crate) fn add_first<K: Eq + Hash + Drop>(
     places: &mut IndexMap<K, u32>,
     log: &[LogEntry],
     key: K,

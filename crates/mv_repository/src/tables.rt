@@ -1,12 +1,12 @@
 //! The tables that a repository keeps of its log, and what one more entry does to them.
 
 ghost use Rattle.std.specs.Prelude.{◌≡◌, ◌+◌};
-ghost use Rattle.mv_repository.specs.Clauses.{AnEntry, AreMastersOf, AreTablesOf, IfOk, List, OnErr, OnOk, [], distinct_count, entry_at, filter, is_counted, is_master, is_same_pack, is_stop, length, newest_effect, take, track_of, true, uploaded_packs};
+ghost use Rattle.mv_repository.specs.Clauses.{AnEntry, AreTablesOf, IfOk, List, OnErr, OnOk, [], distinct_count, entry_at, filter, is_counted, is_same_pack, is_stop, length, newest_effect, take, track_of, true, uploaded_packs};
 
 use crate::entry::{message_at, passes};
 use crate::shelf::{Counted, Shelf};
 use crate::state::Newest;
-use crate::stops::{Stop, Stops};
+use crate::stops::{Stop, Stops, add_first};
 use crate::{Effect, LogEntry};
 use indexmap::IndexMap;
 use mv_message::Message;
@@ -77,7 +77,11 @@ impl Tables {
         };
         match message {
             Message::Master { gtin, .. } => {
-                add_master(&mut self.masters, log, *gtin, place)?;
+                let last = self.masters.get(gtin).copied();
+                if matches!(last, Some(last) if passes(log, place, last)) {
+                    return Ok(Effect::Done);
+                }
+                self.masters.insert(*gtin, place)?;
                 Ok(Effect::Done)
             }
             Message::Upload { gtin, serials, .. } => {
@@ -116,7 +120,11 @@ impl Tables {
         ensures effect { IfOk result (λ effect. effect ≡ newest_effect log.now place) }
         ensures err { OnErr result (AreTablesOf (take place log.now) self.new) }
     {
-        if !self.stops.add(log, stop, place)? {
+        let is_first = match *stop {
+            Stop::OfBatch(batch) => add_first(&mut self.stops.recalls, log, batch.copy(), place),
+            Stop::OfProduct(gtin) => add_first(&mut self.stops.withdrawals, log, *gtin, place),
+        };
+        if !is_first? {
             return Ok(Effect::Noted);
         }
         let Some(shelf) = self.shelves.get_mut(stop.gtin()) else {
@@ -130,25 +138,4 @@ impl Tables {
         shelf.refresh(&newest, stop);
         Ok(Effect::Done)
     }
-}
-
-/// Adds the newest entry, a master of a code; where it is the last by stamp it is the one that the table finds. Where
-/// memory is refused nothing has changed.
-fn add_master(
-    masters: &mut IndexMap<Gtin, u32>,
-    log: &[LogEntry],
-    gtin: Gtin,
-    place: u32,
-) -> Result<(), AllocError>
-    requires last { length log.now ≡ place + 1 }
-    requires master { is_master gtin (entry_at log.now place).entry.item ≡ true }
-    requires masters { AreMastersOf (take place log.now) masters.old.entries }
-    ensures ok { OnOk result (AreMastersOf log.now masters.new.entries) }
-    ensures err { OnErr result (masters.new.entries ≡ masters.old.entries) }
-{
-    let last = masters.get(&gtin).copied();
-    if !matches!(last, Some(last) if passes(log, place, last)) {
-        masters.insert(gtin, place)?;
-    }
-    Ok(())
 }

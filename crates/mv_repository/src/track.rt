@@ -2,7 +2,7 @@
 //! which the pack stands behind them. This file knows no other pack.
 
 ghost use Rattle.std.specs.Prelude.{◌≡◌, ◌≤◌};
-ghost use Rattle.mv_repository.specs.Clauses.{AreStopsOf, Ascends, IfOk, IsAgain, IsKept, OnErr, OnOk, Some, [], IsPartitionPoint, bare, newest_effect, entry_at, false, is_status_of, length, life_of, map, not, passes, stops_in, take, true, unwrap_or};
+ghost use Rattle.mv_repository.specs.Clauses.{AreStopsOf, Ascends, IfOk, IsAgain, IsKept, OnErr, OnOk, [], IsPartitionPoint, newest_effect, entry_at, false, is_status_of, length, life_of, map, not, passes, stops_in, take, true, unwrap_or};
 
 use crate::blocks::{Block, put_late};
 use crate::entry::passes;
@@ -30,11 +30,11 @@ fn place_for(log: &[LogEntry], statuses: &[u32], new: u32) -> usize
 #[derive(Drop)]
 pub(crate) struct Track {
     /// The place of the first upload that names the pack.
-    birth: Option<u32>,
+    pub birth: Option<u32>,
     /// The places of its statuses, in the order of stamps.
-    statuses: Vec<u32>,
+    pub statuses: Vec<u32>,
     /// The place of the entry by which it stands behind all.
-    by: u32,
+    pub by: u32,
     /// What many statuses do, where one came late.
     blocks: Vec<Block>,
 }
@@ -60,13 +60,6 @@ impl Track {
         }
     }
 
-    /// The place of the first upload that names the pack, those of its statuses, and that of the entry by which it stands.
-    pub fn parts(&self) -> (Option<u32>, &[u32], u32)
-        ensures { record { birth = result.0; statuses = result.1.now; by = result.2; blocks = [] } ≡ bare self.now }
-    {
-        (self.birth, self.statuses.as_slice(), self.by)
-    }
-
     /// Adds a status of the pack, which is the newest entry of the log, and gives its effect where it stands. Where memory
     /// is refused nothing has changed.
     pub fn add_status(&mut self, newest: &Newest<'_>, pack: &PackKey) -> Result<Effect, AllocError>
@@ -77,12 +70,8 @@ impl Track {
         ensures effect { IfOk result (λ effect. effect ≡ newest_effect newest.now.log.now newest.now.place) }
         ensures err { OnErr result (self.new ≡ self.old) }
     {
-        self.statuses.reserve(1)?;
-        // All room is got: nothing fails from here on.
         let at = place_for(newest.log, self.statuses.as_slice(), newest.place);
-        let Ok(()) = self.statuses.insert(at, newest.place) else {
-            unreachable!();
-        };
+        self.statuses.insert(at, newest.place)?;
         let Some(birth) = self.birth else {
             return Ok(Effect::Unknown);
         };
@@ -98,19 +87,12 @@ impl Track {
         Ok(effect)
     }
 
-    /// Adds the newest entry, an upload that is the first by stamp of those that name the pack.
-    pub fn add_upload(&mut self, newest: &Newest<'_>, gtin: &Gtin)
-        ensures { IsAgain newest.now.log.now (stops_in newest.now.log.now newest.now.stops.now) gtin.now (Some newest.now.place) self.old self.new }
+    /// Works the pack out again, where this is the place of the first upload that names it.
+    pub fn refresh(&mut self, newest: &Newest<'_>, gtin: &Gtin, birth: Option<u32>)
+        ensures { IsAgain newest.now.log.now (stops_in newest.now.log.now newest.now.stops.now) gtin.now birth self.old self.new }
     {
-        self.birth = Some(newest.place);
-        self.refresh(newest, gtin);
-    }
-
-    /// Works the pack out again.
-    pub fn refresh(&mut self, newest: &Newest<'_>, gtin: &Gtin)
-        ensures { IsAgain newest.now.log.now (stops_in newest.now.log.now newest.now.stops.now) gtin.now self.old.birth self.old self.new }
-    {
-        self.by = match self.birth {
+        self.birth = birth;
+        self.by = match birth {
             Some(birth) => Basis {
                 log: newest.log,
                 stops: newest.stops,

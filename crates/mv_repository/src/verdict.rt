@@ -39,25 +39,18 @@ pub enum Joint {
 pub(crate) fn found_active(found: &Found) -> bool
     ensures { result ≡ found_active found.now }
 {
-    match found {
-        Found::Present { standing, .. } => is_active(*standing),
-        Found::Absent => false,
-    }
+    matches!(found, Found::Present { standing, .. } if is_active(*standing))
 }
 
 /// Whether a pack was found recalled, withdrawn, or to be destroyed: something other than a falsification explains it.
 pub(crate) fn found_explained(found: &Found) -> bool
     ensures { result ≡ found_explained found.now }
 {
-    match found {
-        Found::Present {
-            standing,
-            recalled,
-            withdrawn,
-            ..
-        } => *recalled || *withdrawn || matches!(standing, Standing::Destruction),
-        Found::Absent => false,
-    }
+    matches!(
+        found,
+        Found::Present { standing, recalled, withdrawn, .. }
+            if *recalled || *withdrawn || matches!(standing, Standing::Destruction)
+    )
 }
 
 /// The verdict where a pack was found active or not, and explained or not by something other than a falsification.

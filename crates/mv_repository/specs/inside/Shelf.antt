@@ -1,10 +1,74 @@
--- What is kept of each pack of a product: a pack that has no status has a slot alone, and each other a track.
-use Rattle.std.specs.Prelude.{◌≡◌, ◌==◌, ◌||◌}
-use Rattle.mv_repository.specs.Words.{ℕ, List, [], get_or, Bool, true, false, Option, Some, None, IfSome, bytes_eq, keys_of, lookup, option_and_then, option_map_or, filter, is_some, not, HashSet, Counted, Active, Every, Slot, Made, Own, list_any, Upload, Item, Carried, LogEntry, insert_key, pack_key, unwrap_or, Stop, OfBatch, OfProduct}
+-- What is kept of each pack of a product: a pack that has no status has a slot alone, and each other a track. The serial number of a pack
+-- stands in the upload that made it, or among the names of the packs that have a track.
+use Rattle.std.specs.Prelude.{◌≡◌, ◌==◌, ◌||◌, ◌<◌, ◌≤◌, if◌then◌else◌}
+use Rattle.mv_index.specs.Hashes.{short_hash}
+use Rattle.mv_pack.specs.Code.{code_pieces}
+use Rattle.mv_repository.specs.declared.slots.Spot.{Spot}
+use Rattle.mv_repository.specs.Words.{ℕ, List, [], get_or, Bool, true, false, Option, Some, None, IfSome, bytes_eq, keys_of, lookup, option_and_then, option_map_or, is_some, not, Counted, Active, Every, Slot, Made, Own, list_any, Upload, Item, Carried, LogEntry, insert_key, pack_key, unwrap_or, Stop, OfBatch, OfProduct, length, map, AllByRecursion, IsDistinct}
 use Rattle.mv_repository.specs.inside.Track.{batch_at, comes_first, made_batch, Kept, Life, life_of, IsKept, IsTrack}
-use Rattle.mv_repository.specs.Bearing.{FirstStops}
+use Rattle.mv_repository.specs.Bearing.{FirstStops, entry_at}
 use Rattle.mv_repository.specs.Repository.{serials_of}
-use Rattle.mv_repository.specs.inside.Slots.{AreSlots, RoomySlots, keyed, no_slots}
+
+-- the serial numbers that an item uploads
+abbrev pub serials_uploaded : Item → List (List ℕ)
+serials_uploaded (Carried k stamp (Upload gtin batch expiry national serials)) = serials
+serials_uploaded _ = []
+
+-- the serial number of the pack that a slot stands for
+abbrev pub serial_of : List LogEntry → List (List ℕ) → Slot → List ℕ
+serial_of log names (Made index place) = get_or (serials_uploaded (entry_at log place).entry.item) index []
+serial_of log names (Own number) = get_or names number []
+
+-- a slot where there is none
+abbrev pub no_slot : Slot
+no_slot = Made 0 0
+
+-- it is there
+abbrev pub IsNamed : List LogEntry → List (List ℕ) → Slot → Type 0
+IsNamed log names (Made index place) = index < length (serials_uploaded (entry_at log place).entry.item)
+IsNamed log names (Own number) = number < length names
+
+-- the slots, each under its serial number
+abbrev pub keyed : List LogEntry → List (List ℕ) → List Slot → List (List ℕ × Slot)
+keyed log names slots = map (λ slot. (serial_of log names slot, slot)) slots
+
+-- the hash of a serial number
+abbrev pub serial_hash : List ℕ → ℕ
+serial_hash serial = short_hash (code_pieces serial)
+
+-- what is kept of slots: each has the hash of its serial number; and the serial numbers of the packs that have a track
+pub record SlotTable : Type 0 where
+  pub hashes : List ℕ
+  pub slots : List Slot
+  pub names : List (List ℕ)
+
+-- the slots stand for packs by a log, each for one
+pub record AreSlots (log : List LogEntry) (table : SlotTable) : Type 0 where
+  pub hashes : table.hashes ≡ map serial_hash (keys_of (keyed log table.names table.slots))
+  pub named : AllByRecursion (IsNamed log table.names) table.slots
+  pub distinct : IsDistinct bytes_eq (keys_of (keyed log table.names table.slots))
+
+-- where a serial number stands among the slots, or would stand
+pub record IsSpot (log : List LogEntry) (table : SlotTable) (serial : List ℕ) (spot : Spot) : Type 0 where
+  pub hash : spot.hash ≡ serial_hash serial
+  pub slot : spot.slot ≡ lookup (bytes_eq serial) (keyed log table.names table.slots)
+  pub number : spot.number < length table.slots → serial_of log table.names (get_or table.slots spot.number no_slot) ≡ serial
+  pub none : length table.slots ≤ spot.number → spot.slot ≡ None
+
+-- a slot is under a serial number, and each other where it was
+pub record IsEntered (old new : List (List ℕ × Slot)) (serial : List ℕ) (slot : Slot) : Type 0 where
+  pub keys : keys_of new ≡ insert_key bytes_eq (keys_of old) serial
+  pub found : (other : List ℕ) → lookup (bytes_eq other) new ≡ (if bytes_eq serial other then Some slot else lookup (bytes_eq other) old)
+
+-- a slot was written under a serial number
+abbrev pub IsWritten : List LogEntry → SlotTable → SlotTable → List ℕ → Slot → Type 0
+IsWritten log old new serial slot = AreSlots log new × IsEntered (keyed log old.names old.slots) (keyed log new.names new.slots) serial slot
+
+-- a slot is written where a serial number stands
+abbrev pub Writes : Spot → Slot → SlotTable → SlotTable → Type 0
+Writes spot slot old new =
+    (log : List LogEntry) (serial : List ℕ) → AreSlots log old → IsSpot log old serial spot → IsNamed log old.names slot → serial_of log old.names slot ≡ serial
+    → IsWritten log old new serial slot
 
 -- nothing is kept
 abbrev pub nothing_kept : Kept
@@ -33,13 +97,14 @@ pub record ShelfTable : Type 0 where
 
 -- the same as it is kept
 pub record ShelfParts : Type 0 where
-  pub slots : RoomySlots
+  pub table : SlotTable
+  pub room : ℕ  -- for so many packs more
   pub tracks : List Kept
   pub listing : ListingTable
 
 -- what is kept so by a log
 abbrev pub shelf_by : List LogEntry → ShelfParts → ShelfTable
-shelf_by log parts = record { slots = keyed log parts.slots.table.names parts.slots.table.slots; tracks = parts.tracks; listing = parts.listing }
+shelf_by log parts = record { slots = keyed log parts.table.names parts.table.slots; tracks = parts.tracks; listing = parts.listing }
 
 -- what is kept of a pack of the product, by its serial number
 abbrev pub kept_in : ShelfTable → List ℕ → Kept
@@ -49,10 +114,6 @@ kept_in shelf serial = kept_by shelf.tracks (lookup (bytes_eq serial) shelf.slot
 abbrev pub IsUploadOf : Item → List ℕ → List (List ℕ) → Type 0
 IsUploadOf (Carried k stamp (Upload named batch expiry national packs)) gtin serials = (named ≡ gtin) × (packs ≡ serials)
 IsUploadOf _ gtin serials = ⊥
-
--- a number is in the set of a batch
-abbrev pub is_in : {S : Type 0} → List (List ℕ × HashSet ℕ S) → List ℕ → ℕ → Bool
-is_in {S} sets batch number = option_map_or (λ (set : HashSet ℕ S). has_number set.keys number) (lookup (bytes_eq batch) sets) false
 
 -- a number may be of a batch: any may, where they are not all
 abbrev pub lists : ListingTable → List ℕ → ℕ → Bool
@@ -68,14 +129,10 @@ abbrev pub is_listed : ListingTable → Option Slot → List ℕ → Bool
 is_listed listing (Some (Own number)) batch = lists listing batch number
 is_listed listing _ batch = true
 
--- the same by the serial number of the pack
-abbrev pub is_listed_in : ShelfTable → List ℕ → List ℕ → Bool
-is_listed_in shelf serial batch = is_listed shelf.listing (lookup (bytes_eq serial) shelf.slots) batch
-
 -- a pack is kept on a shelf as a log means it, and its track is listed under its batch, which is that of the upload that made it
 pub record IsPackOf (life : Life) (shelf : ShelfTable) (serial : List ℕ) : Type 0 where
   pub kept : IsKept life (kept_in shelf serial)
-  pub listed : IfSome (option_and_then (λ birth. made_batch birth.entry.item) life.birth) (λ batch. is_listed_in shelf serial batch ≡ true)
+  pub listed : IfSome (option_and_then (λ birth. made_batch birth.entry.item) life.birth) (λ batch. is_listed shelf.listing (lookup (bytes_eq serial) shelf.slots) batch ≡ true)
 
 -- a shelf is that of a product by a log: it keeps each pack, and has a slot for each serial number that the log names, in their order
 pub record IsShelfOf (log : List LogEntry) (gtin : List ℕ) (shelf : ShelfTable) : Type 0 where
@@ -84,12 +141,12 @@ pub record IsShelfOf (log : List LogEntry) (gtin : List ℕ) (shelf : ShelfTable
 
 -- what is kept on a shelf is that of a product by a log
 pub record AreShelfOf (log : List LogEntry) (gtin : List ℕ) (parts : ShelfParts) : Type 0 where
-  pub slots : AreSlots log parts.slots.table
+  pub slots : AreSlots log parts.table
   pub shelf : IsShelfOf log gtin (shelf_by log parts)
 
 -- a shelf with no pack
 abbrev pub no_shelf : ShelfParts
-no_shelf = record { slots = record { table = no_slots; room = 0 }; tracks = []; listing = record { is_whole = true; numbers = [] } }
+no_shelf = record { table = record { hashes = []; slots = []; names = [] }; room = 0; tracks = []; listing = record { is_whole = true; numbers = [] } }
 
 -- the shelf of a product
 abbrev pub shelf_of : List ℕ → List (List ℕ × ShelfParts) → ShelfParts
@@ -111,7 +168,7 @@ pub record IsPut (log : List LogEntry) (stops : FirstStops) (gtin : List ℕ) (p
   pub changed : IsChanged serial old new
   pub later : comes_first log place (kept_in old serial).birth ≡ false → new ≡ old
   pub again : comes_first log place (kept_in old serial).birth ≡ true → IsAgain log stops gtin (Some place) (kept_in old serial) (kept_in new serial)
-  pub listed : comes_first log place (kept_in old serial).birth ≡ true → IfSome (batch_at log place) (λ batch. is_listed_in new serial batch ≡ true)
+  pub listed : comes_first log place (kept_in old serial).birth ≡ true → IfSome (batch_at log place) (λ batch. is_listed new.listing (lookup (bytes_eq serial) new.slots) batch ≡ true)
 
 -- a track was worked out again, or it stays
 abbrev pub IsRefreshed : List LogEntry → FirstStops → List ℕ → Bool → Kept → Kept → Type 0
@@ -122,7 +179,3 @@ IsRefreshed log stops gtin false old new = new ≡ old
 abbrev pub is_counted : Counted → Kept → Bool
 is_counted Every kept = is_some kept.birth
 is_counted Active kept = option_map_or (λ birth. birth == kept.by) kept.birth false
-
--- the slots of the packs on a shelf that are counted
-abbrev pub slots_counted : Counted → ShelfParts → List Slot
-slots_counted counted parts = filter (λ slot. is_counted counted (kept_by parts.tracks (Some slot))) parts.slots.table.slots

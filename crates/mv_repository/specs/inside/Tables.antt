@@ -15,13 +15,10 @@ abbrev pub is_master : List ℕ → Item → Bool
 is_master gtin (Carried k stamp (Master named product)) = bytes_eq named gtin
 is_master gtin _ = false
 
--- the table has, for each code, the place of its last master by stamp order, and nothing where there is none
-abbrev pub AreMastersOf : List LogEntry → List (List ℕ × ℕ) → Type 0
-AreMastersOf log masters = AreFound bytes_eq is_master (λ test. last_or None (filter test (ordered log))) masters
-
 -- the tables are those of a log, and its uploads name so many packs, each as often as it is named
 pub record AreTablesOf (log : List LogEntry) (tables : Tables) : Type 0 where
-  pub masters : AreMastersOf log tables.masters.entries
+  -- for each code the place of its last master by stamp
+  pub masters : AreFound bytes_eq is_master (λ test. last_or None (filter test (ordered log))) tables.masters.entries
   pub stops : AreStopsOf log tables.stops
   pub shelves : (gtin : List ℕ) → AreShelfOf log gtin (shelf_of gtin tables.shelves.entries)
   pub named : tables.named ≡ length (uploaded_packs log)
@@ -31,10 +28,6 @@ abbrev pub query_of : ℕ → ℕ → Item → Option ℕ
 query_of party sender (Receipt k reach query) = if query && (sender == party) then Some k else None
 query_of party sender (Carried k stamp (Answer asker q key found)) = if asker == party then Some q else None
 query_of party sender _ = None
-
--- nothing is known of a query
-abbrev pub no_inquiry : Inquiry
-no_inquiry = record { asked = None; active = false; explained = false }
 
 -- it is kept that a party has answered a query
 abbrev pub has_reply : Inquiries → ℕ → ℕ → Bool
@@ -61,5 +54,5 @@ inquiry_of party log q = record {
 
 -- what is kept is what a log says of a party's queries, for each query and each other party; of a query that is not kept it says nothing
 pub record IsInquiriesOf (party : ℕ) (log : List LogEntry) (known : Inquiries) : Type 0 where
-  pub inquiries : (q : ℕ) → unwrap_or (lookup (nat_eq q) known.inquiries.entries) no_inquiry ≡ inquiry_of party log q
+  pub inquiries : (q : ℕ) → unwrap_or (lookup (nat_eq q) known.inquiries.entries) (record { asked = None; active = false; explained = false }) ≡ inquiry_of party log q
   pub replies : (q other : ℕ) → has_reply known q other ≡ has_answered party log q other

@@ -36,11 +36,6 @@ abbrev pub stopped_product : Stop → List ℕ
 stopped_product (OfBatch batch) = batch.now.gtin
 stopped_product (OfProduct gtin) = gtin.now
 
--- the place of the first that stops so, by the tables
-abbrev pub first_place : Stop → Stops → Option ℕ
-first_place (OfBatch batch) tables = lookup (is_same_batch batch.now) tables.recalls.entries
-first_place (OfProduct gtin) tables = lookup (bytes_eq gtin.now) tables.withdrawals.entries
-
 -- a table of keys has the place of what is picked of each kind
 abbrev pub AreFound : {K : Type 0} → (K → K → Bool) → (K → Item → Bool) → ((Placed → Bool) → Option Placed) → List (K × ℕ) → Type 0
 AreFound {K} same is_of pick places = (key : K) → lookup (same key) places ≡ option_map place_of (pick (λ placed. is_of key placed.entry.item))
@@ -134,20 +129,13 @@ abbrev pub next_place : List LogEntry → FirstStops → List ℕ → ℕ → �
 next_place log stops gtin birth by place =
     (next_by stops gtin (Some (entry_at log birth)) (entry_at log by) (entry_at log place)).place
 
--- by what a pack is worked out: the first stops, and the entry at a place
-abbrev pub stops_of : Basis → FirstStops
-stops_of basis = stops_in basis.log.now basis.stops.now
-
-abbrev pub entry_in : Basis → ℕ → Placed
-entry_in basis = entry_at basis.log.now
-
 -- the effect of the status at a place, where the pack stands by an entry; and by which entry the pack stands then
 abbrev pub effect_in : Basis → ℕ → ℕ → Effect
 effect_in basis by place =
-    effect_on (stops_of basis) basis.gtin.now (entry_in basis basis.birth) (entry_in basis by) (entry_in basis place)
+    effect_on (stops_in basis.log.now basis.stops.now) basis.gtin.now (entry_at basis.log.now basis.birth) (entry_at basis.log.now by) (entry_at basis.log.now place)
 
 abbrev pub next_in : Basis → ℕ → ℕ → ℕ
-next_in basis = next_place basis.log.now (stops_of basis) basis.gtin.now basis.birth
+next_in basis = next_place basis.log.now (stops_in basis.log.now basis.stops.now) basis.gtin.now basis.birth
 
 -- an entry is no revert, or its sender may be among these: a set seems to have all whose numbers differ from that of one by the
 -- greatest number of parties

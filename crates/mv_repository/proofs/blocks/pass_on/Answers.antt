@@ -1,12 +1,12 @@
 -- The block in which the status stands is worked out again. One block further; from where the pack stands as it did, all is as it was.
-use Rattle.mv_repository.proofs.Lemmas.{◌≡◌, ◌∙◌, get_or, refl, rules, arith, entry_in, next_in, take-append-drop, take_all, common_steps, fold-cut, pass-after, pass-behind, pass-front, renewed}
+use Rattle.mv_repository.proofs.Lemmas.{◌≡◌, ◌∙◌, get_or, refl, rules, arith, entry_at, next_in, take-append-drop, take_all, common_steps, fold-cut, pass-after, pass-behind, pass-front, renewed}
 use Rattle.mv_repository.proofs.blocks.pass_on.Goals as goal
 
 pub loop-number-init : goal.loop-number-init
 loop-number-init c =
     let read : c.index-old.result.now ≡ get_or c.args.blocks.now.items c.args.cut.number c.index-old.result.now = search rules in
     let done =
-    renewed (entry_in c.args.basis.now) (next_in c.args.basis.now) c.args.basis.now.birth (λ n. refl) c.args.blocks.now.items c.args.own.now c.args.at c.args.cut c.requires.within c.requires.at c.requires.cut
+    renewed (entry_at c.args.basis.now.log.now) (next_in c.args.basis.now) c.args.basis.now.birth (λ n. refl) c.args.blocks.now.items c.args.own.now c.args.at c.args.cut c.requires.within c.requires.at c.requires.cut
     c.index-old.result.now (c.requires.number, read, c.requires.inside c.index-old.result.now read)
     c.of-new.result c.split_at.result.1.now c.split_at-2.result.0.now c.split_at-2.result.1.now c.split_at.ensures.back c.split_at-2.ensures.front c.split_at-2.ensures.back c.of-new.ensures.after
     c.args.standing c.requires.standing (c.of-new.ensures.count ∙ c.split_at-2.ensures.front_len) c.of-new.ensures.summary in

@@ -1,5 +1,5 @@
 -- A status that is the last changes no block.
-use Rattle.mv_repository.proofs.Lemmas.{◌∙◌, ◌+◌, ◌≡◌, List, fold, length, take, ℕ, ap, arith, common_steps, rules, get_or, without, effect_in, entry_in, next_in, refl, last-blocks, late-before, late-fold, late-front}
+use Rattle.mv_repository.proofs.Lemmas.{◌∙◌, ◌+◌, ◌≡◌, List, fold, length, take, ℕ, ap, arith, common_steps, get_or, without, effect_in, entry_at, next_in, refl, last-blocks, late-before, late-fold, late-front}
 use Rattle.mv_repository.proofs.Words.{elements}
 use Rattle.mv_repository.proofs.blocks.put_late.Goals as goal
 
@@ -17,15 +17,15 @@ returns-then-at-own-clause-effect c =
 pub returns-then-index-clause-effect : goal.returns-then-index-clause-effect
 returns-then-index-clause-effect c =
     let cut = c.cut_at-cut.ensures.cut (without c.args.own.now c.args.at) c.requires.blocks in
-    let before = late-before (entry_in c.args.basis.now) (next_in c.args.basis.now) c.args.basis.now.birth (λ n. refl) c.args.blocks.now.items c.args.own.now c.args.at c.cut_at-cut.result c.requires.within c.cut_at-cut.ensures.at cut in
+    let before = late-before (entry_at c.args.basis.now.log.now) (next_in c.args.basis.now) c.args.basis.now.birth (λ n. refl) c.args.blocks.now.items c.args.own.now c.args.at c.cut_at-cut.result c.requires.within c.cut_at-cut.ensures.at cut in
     c.next-effect.ensures.effect ∙ ap (λ (n : ℕ). effect_in c.args.basis.now n (get_or c.args.own.now c.args.at 0)) (c.after-before.ensures ∙ before)
 
 pub returns : goal.returns
 returns c =
     let cut = c.cut_at-cut.ensures.cut (without c.args.own.now c.args.at) c.requires.blocks in
-    let before = late-before (entry_in c.args.basis.now) (next_in c.args.basis.now) c.args.basis.now.birth (λ n. refl) c.args.blocks.now.items c.args.own.now c.args.at c.cut_at-cut.result c.requires.within c.cut_at-cut.ensures.at cut in
+    let before = late-before (entry_at c.args.basis.now.log.now) (next_in c.args.basis.now) c.args.basis.now.birth (λ n. refl) c.args.blocks.now.items c.args.own.now c.args.at c.cut_at-cut.result c.requires.within c.cut_at-cut.ensures.at cut in
     record {
       effect = c.next-effect.ensures.effect ∙ ap (λ (n : ℕ). effect_in c.args.basis.now n (get_or c.args.own.now c.args.at 0)) (c.after-before.ensures ∙ before);
-      blocks = search (rules, late-front (entry_in c.args.basis.now) (next_in c.args.basis.now) c.args.basis.now.birth (λ n. refl) c.args.blocks.now.items c.args.own.now c.args.at c.cut_at-cut.result c.requires.within c.cut_at-cut.ensures.at cut);
+      blocks = grind (arith, common_steps, late-front (entry_at c.args.basis.now.log.now) (next_in c.args.basis.now) c.args.basis.now.birth (λ n. refl) c.args.blocks.now.items c.args.own.now c.args.at c.cut_at-cut.result c.requires.within c.cut_at-cut.ensures.at cut);
       by = grind (arith, common_steps, late-fold);
     }

@@ -1,15 +1,16 @@
 -- One serial number more.
-use Rattle.mv_repository.proofs.Lemmas.{◌≡◌, ◌≤◌, ◌+◌, ◌∷◌, AreSlots, ArePacksOf, Bool, IsShelfOf, RoomySlots, SlotTable, keyed, shelf-seen, Kept, List, Some, [], ap, arith, bytes_eq, comes_first, cond, fold, fold-append, get_or, get_or_default, insert_key, kept_in, log-length, log-split, nat_tests, new-more, no_entry, refl, rules, serials-at, serials_of, shelf_by, slice_get, slice_get-get_or, subst, sym, take, take_all, take_more, text-self, upload-adds, upload-all, upload-names, upload-serials, ℕ, ◌∙◌}
+use Rattle.mv_repository.proofs.Lemmas.{◌≡◌, ◌≤◌, ◌+◌, ◌∷◌, AreSlots, ArePacksOf, Bool, IsShelfOf, SlotTable, keyed, shelf-seen, Kept, List, Some, [], ap, arith, bytes_eq, comes_first, cond, fold, fold-append, get_or, get_or_default, insert_key, kept_in, length, log-length, log-split, nat_tests, new-more, no_entry, refl, rules, serials-at, serials_of, shelf_by, slice_get, slice_get-get_or, subst, sym, take, take_all, take_more, text-self, upload-adds, upload-all, upload-names, upload-serials, ℕ, ◌∙◌}
 use Rattle.mv_repository.proofs.shelf.Shelf.add_upload.Goals as goal
 
 pub loop-index-init : goal.loop-index-init
 loop-index-init c =
     let whole = c.args.newest.now.log.now in
     let place = c.args.newest.now.place in
-    let touched = ap (λ (slots : RoomySlots). slots.table) c.touch.ensures ∙ c.reserve.ensures.table in
+    let hashes = (λ i. (c.touch.ensures i).hashes) ∙ c.reserve.ensures.hashes in
     let longer = subst (λ (table : SlotTable). AreSlots whole table × IsShelfOf (take place whole) c.args.gtin.now (record { slots = keyed whole table.names table.slots; tracks = c.self.inside.tracks.items; listing = c.self.inside.listing }))
-    (sym touched) (shelf-seen whole place c.args.gtin.now c.self.view_is c.requires.shelf) in
-    record { room = omega (arith, ap (λ (slots : RoomySlots). slots.room) c.touch.ensures, c.in_ok-reserve.ensures.room); slots = longer.0; packs = longer.1.packs; keys = longer.1.serials; new = refl; least = omega arith }
+    (sym (λ i. record { hashes = hashes i; slots = c.reserve-2.ensures.items i; names = c.self.inside.names.items })) (shelf-seen whole place c.args.gtin.now c.self.view_is c.requires.shelf) in
+    let room : c.touch.new.self.room ≡ c.reserve.new.self.room = λ i. (c.touch.ensures i).room in
+    record { room = omega (arith, c.in_ok-reserve.ensures.ok, c.in_ok-reserve-2.ensures.ok, ap length c.reserve-2.ensures.items); slots = longer.0; packs = longer.1.packs; keys = longer.1.serials; new = refl; least = omega arith }
 
 pub put_upload-is_first-requires-clause-named : goal.put_upload-is_first-requires-clause-named
 put_upload-is_first-requires-clause-named c =

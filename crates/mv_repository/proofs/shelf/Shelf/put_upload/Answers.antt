@@ -1,5 +1,5 @@
 -- The pack has a slot, and the other packs keep theirs.
-use Rattle.mv_repository.proofs.Lemmas.{◌≡◌, AreSlots, IfSome, IsAgain, IsPut, IsWritten, Kept, List, LogEntry, Made, Option, Own, ShelfParts, ShelfTable, Slot, Some, [], ap, arith, batch_at, bytes_eq, comes_first, entry_at, false, found-own, get_or_from_slice_get, is-changed, is_listed, keyed, kept_by, kept_in, lookup, none-changed, own-changed, own-kept, own-set, own-within, refl, serials_uploaded, shelf_by, slice_get_within, stops_in, subst, sym, true, ℕ, ◌∙◌}
+use Rattle.mv_repository.proofs.Lemmas.{◌≡◌, AreSlots, IfSome, IsAgain, IsPut, IsWritten, Kept, List, LogEntry, Made, Option, Own, ShelfParts, ShelfTable, Slot, SlotTable, Some, [], ap, arith, batch_at, bytes_eq, comes_first, entry_at, false, found-own, get_or_from_slice_get, is-changed, is_listed, keyed, kept_by, kept_in, lookup, none-changed, own-changed, own-kept, own-set, own-within, refl, serials_uploaded, shelf_by, slice_get_within, stops_in, subst, sym, true, ◌∙◌}
 use Rattle.mv_repository.proofs.Words.{set, true≢false}
 use Rattle.mv_repository.proofs.shelf.Shelf.put_upload.Goals.{After-put, In-Some-Own, in_default-via-in-Some+in_default, in_default-via-in_default}
 use Rattle.mv_repository.proofs.shelf.Shelf.put_upload.Goals as goal
@@ -21,25 +21,25 @@ module _ (c : After-put) where
   abbrev log : List LogEntry
   log = c.args.newest.now.log.now
 
-  abbrev slots : List (List ℕ × Slot)
-  slots = keyed log c.self.inside.slots.table.names c.self.inside.slots.table.slots
+  abbrev old : ShelfTable
+  old = shelf_by log c.args.self.now
 
   abbrev new : ShelfTable
-  new = record { slots = keyed log c.put.new.self.table.names c.put.new.self.table.slots; tracks = c.self.inside.tracks.items; listing = c.self.inside.listing }
+  new = record old { slots = keyed log c.put.new.self.table.names c.put.new.self.table.slots }
 
-  written : IsWritten log c.self.inside.slots.table c.put.new.self.table c.args.serial.now (Made c.args.index c.args.newest.now.place)
+  written : IsWritten log c.args.self.now.table c.put.new.self.table c.args.serial.now (Made c.args.index c.args.newest.now.place)
   written =
       let named = serials_uploaded (entry_at log c.args.newest.now.place).entry.item in
-      c.put.ensures.written log c.args.serial.now (subst (λ (parts : ShelfParts). AreSlots log parts.slots.table) (sym c.self.view_is) c.requires.slots) c.find-spot.ensures
+      c.put.ensures.written log c.args.serial.now c.requires.slots c.find-spot.ensures
       (slice_get_within named c.args.index c.args.serial.now c.requires.named) (get_or_from_slice_get named c.args.index c.args.serial.now [] c.requires.named)
 
   own : lookup (bytes_eq c.args.serial.now) new.slots ≡ Some (Made c.args.index c.args.newest.now.place)
-  own = found-own c.args.serial.now (Made c.args.index c.args.newest.now.place) (record new { slots = slots }) new written.1
+  own = found-own c.args.serial.now (Made c.args.index c.args.newest.now.place) old new written.1
 
-  first : comes_first log c.args.newest.now.place (kept_by new.tracks (lookup (bytes_eq c.args.serial.now) slots)).birth ≡ true
+  first : comes_first log c.args.newest.now.place (kept_in old c.args.serial.now).birth ≡ true
   first = grind arith
 
-  no-statuses : (kept_by new.tracks (lookup (bytes_eq c.args.serial.now) slots)).statuses ≡ []
+  no-statuses : (kept_in old c.args.serial.now).statuses ≡ []
   no-statuses = elim c.in_default.branch [ in_default-via-in-Some+in_default w ↦ grind arith | in_default-via-in_default w ↦ grind arith ]
 
 pub returns-in_default-clause-slots : goal.returns-in_default-clause-slots
@@ -47,26 +47,29 @@ returns-in_default-clause-slots c = (written c).0
 
 pub returns-in_default-clause-put : goal.returns-in_default-clause-put
 returns-in_default-clause-put c =
-    subst (λ (parts : ShelfParts). IsPut (log c) (stops_in (log c) c.args.newest.now.stops.now) c.args.gtin.now c.args.newest.now.place c.args.serial.now (shelf_by (log c) parts) (new c)) c.self.view_is (record {
-      changed = is-changed c.args.serial.now (Made c.args.index c.args.newest.now.place) (record (new c) { slots = slots c }) (new c) (written c).1 (λ other number e is. refl) (λ batch number h. h);
+    subst (λ (parts : ShelfParts). IsPut (log c) (stops_in (log c) c.args.newest.now.stops.now) c.args.gtin.now c.args.newest.now.place c.args.serial.now (old c) (shelf_by (log c) parts)) (sym c.put.ensures.others) (record {
+      changed = is-changed c.args.serial.now (Made c.args.index c.args.newest.now.place) (old c) (new c) (written c).1 (λ other number e is. refl) (λ batch number h. h);
       later = λ e. absurd (true≢false (sym (first c) ∙ e));
-      again = λ e. subst (IsAgain (log c) (stops_in (log c) c.args.newest.now.stops.now) c.args.gtin.now (Some c.args.newest.now.place) (kept_by (new c).tracks (lookup (bytes_eq c.args.serial.now) (slots c))))
+      again = λ e. subst (IsAgain (log c) (stops_in (log c) c.args.newest.now.stops.now) c.args.gtin.now (Some c.args.newest.now.place) (kept_in (old c) c.args.serial.now))
           (sym (ap (kept_by (new c).tracks) (own c))) (record { birth = refl; statuses = sym (no-statuses c); worked = record { by = refl; blocks = tt } });
-      listed = λ e. subst (λ (slot : Option Slot). IfSome (batch_at (log c) c.args.newest.now.place) (λ batch. is_listed (new c).listing slot batch ≡ true)) (sym (own c)) (grind arith);
+      listed = λ e. subst (λ (slot : Option Slot). IfSome (batch_at (log c) c.args.newest.now.place) (λ batch. is_listed (new c).listing slot batch ≡ true)) (sym (own c)) (grind (arith));
     })
 
 -- the track of the pack is written
 module _ (c : In-Some-Own) where
-  are : AreSlots c.args.newest.now.log.now c.self.inside.slots.table
-  are = subst (λ (parts : ShelfParts). AreSlots c.args.newest.now.log.now parts.slots.table) (sym c.self.view_is) c.requires.slots
+  abbrev table : SlotTable
+  table = record { hashes = c.self.inside.index.hashes; slots = c.self.inside.slots.items; names = c.self.inside.names.items }
 
-  found : lookup (bytes_eq c.args.serial.now) (keyed c.args.newest.now.log.now c.self.inside.slots.table.names c.self.inside.slots.table.slots) ≡ Some (Own c.in-Some-Own.number)
+  are : AreSlots c.args.newest.now.log.now table
+  are = subst (λ (parts : ShelfParts). AreSlots c.args.newest.now.log.now parts.table) (sym c.self.view_is) c.requires.slots
+
+  found : lookup (bytes_eq c.args.serial.now) (keyed c.args.newest.now.log.now table.names table.slots) ≡ Some (Own c.in-Some-Own.number)
   found = grind arith
 
 pub index_mut-requires : goal.index_mut-requires
 index_mut-requires c =
     let at = (goal.at.index_mut-requires c).In-Some-Own in
-    omega (arith, own-within c.args.newest.now.log.now c.self.inside.slots.table (are at) c.self.inside.tracks.items c.self.invariant c.args.serial.now c.in-Some-Own.number (found at))
+    omega (arith, own-within c.args.newest.now.log.now (table at) (are at) c.self.inside.tracks.items c.self.invariant.1 c.args.serial.now c.in-Some-Own.number (found at))
 
 pub returns-clause-slots : goal.returns-clause-slots
 returns-clause-slots c = are (goal.at.returns-clause-slots c).In-Some-Own
@@ -78,16 +81,16 @@ returns-clause-put c =
     let stops = stops_in log c.args.newest.now.stops.now in
     let place = c.args.newest.now.place in
     let serial = c.args.serial.now in
-    let table = c.self.inside.slots.table in
-    let slots = keyed log table.names table.slots in
+    let one = table at in
+    let slots = keyed log one.names one.slots in
     let tracks = c.self.inside.tracks.items in
     let number = c.in-Some-Own.number in
-    let track = c.add_upload.new.self in
+    let track = c.refresh.new.self in
     let first : comes_first log place (kept_by tracks (lookup (bytes_eq serial) slots)).birth ≡ true = grind arith in
     subst (λ (parts : ShelfParts). IsPut log stops c.args.gtin.now place serial (shelf_by log parts) (record { slots = slots; tracks = set tracks number track; listing = c.note.new.self })) c.self.view_is (record {
-      changed = own-changed log table (are at) tracks c.self.invariant serial number (found at) track c.self.inside.listing c.note.new.self c.note.ensures.kept;
+      changed = own-changed log one (are at) tracks c.self.invariant.1 serial number (found at) track c.self.inside.listing c.note.new.self c.note.ensures.kept;
       later = λ e. absurd (true≢false (sym first ∙ e));
       again = λ e. subst (λ (pair : Kept × Kept). IsAgain log stops c.args.gtin.now (Some place) pair.0 pair.1)
-          (λ i. (sym (own-kept log table (are at) tracks c.self.invariant serial number (found at) c.index_mut.result.now c.index_mut.ensures.value) i, sym (own-set log table (are at) tracks c.self.invariant serial number (found at) track) i)) c.add_upload.ensures;
+          (λ i. (sym (own-kept log one (are at) tracks c.self.invariant.1 serial number (found at) c.index_mut.result.now c.index_mut.ensures.value) i, sym (own-set log one (are at) tracks c.self.invariant.1 serial number (found at) track) i)) c.refresh.ensures;
       listed = λ e. subst (λ (slot : Option Slot). IfSome (batch_at log place) (λ batch. is_listed c.note.new.self slot batch ≡ true)) (sym (found at)) c.note.ensures.added;
     })

@@ -1,18 +1,30 @@
 -- The tracks that may be stopped are worked out, and the entry bears on no other pack.
-use Rattle.mv_repository.proofs.Lemmas.{ShelfParts, get_or, may_stop, no_entry, shelf-again, shelf-seen, shelf_by, stop-form, stop-passes, stopped_product}
+use Rattle.mv_repository.proofs.Lemmas.{AreShelfOf, Kept, List, ShelfTable, arith, common_steps, get_or, keyed, may_stop, no_entry, nothing_kept, shelf-again, shelf-seen, stop-form, stop-passes, stopped_product, stops_in, ℕ}
+use Rattle.mv_repository.proofs.Words.{IsRefreshed, SlotTable}
+use Rattle.mv_repository.proofs.shelf.Shelf.refresh.Goals.{After-of}
 use Rattle.mv_repository.proofs.shelf.Shelf.refresh.Goals as goal
 
+module _ (c : After-of) where
+  abbrev table : SlotTable
+  table = record { hashes = c.self.inside.index.hashes; slots = c.self.inside.slots.items; names = c.self.inside.names.items }
+
+  abbrev old : ShelfTable
+  old = record { slots = keyed c.args.newest.now.log.now table.names table.slots; tracks = c.self.inside.tracks.items; listing = c.self.inside.listing }
+
+  refreshed : (tracks : List Kept) (room : ℕ)
+      → ((number : ℕ) → IsRefreshed c.args.newest.now.log.now (stops_in c.args.newest.now.log.now c.args.newest.now.stops.now) (stopped_product c.args.stop.now) (may_stop old.listing c.args.stop.now number) (get_or old.tracks number nothing_kept) (get_or tracks number nothing_kept))
+      → AreShelfOf c.args.newest.now.log.now (stopped_product c.args.stop.now) (record { table = table; room = room; tracks = tracks; listing = old.listing })
+  refreshed tracks room again =
+      let longer = shelf-seen c.args.newest.now.log.now c.args.newest.now.place (stopped_product c.args.stop.now) c.self.view_is c.requires.shelf in
+      let bears = (stop-form c.args.stop.now (get_or c.args.newest.now.log.now c.args.newest.now.place no_entry).item c.requires.stop).0 in
+      let passes = stop-passes c.args.newest.now.log.now c.args.newest.now.place c.args.newest.now.last c.args.stop.now c.requires.stop old longer.1 in
+      record {
+        slots = longer.0;
+        shelf = shelf-again c.args.newest.now.log.now c.args.newest.now.place c.args.newest.now.stops.now (stopped_product c.args.stop.now) c.args.newest.now.last c.requires.stops bears (may_stop old.listing c.args.stop.now) old tracks again passes longer.1;
+      }
+
+pub returns-in_default : goal.returns-in_default
+returns-in_default c = refreshed (goal.at.returns-in_default c).After-of c.loop-number.tracks.items _ (λ number. grind (arith, common_steps, c.loop-number.invariant.tracks number))
+
 pub returns : goal.returns
-returns c =
-    let whole = c.args.newest.now.log.now in
-    let place = c.args.newest.now.place in
-    let stop = c.args.stop.now in
-    let old : ShelfParts = record { slots = c.self.inside.slots; tracks = c.self.inside.tracks.items; listing = c.self.inside.listing } in
-    let longer = shelf-seen whole place (stopped_product stop) c.self.view_is c.requires.shelf in
-    record {
-      slots = longer.0;
-      shelf = shelf-again whole place c.args.newest.now.stops.now (stopped_product stop) c.args.newest.now.last c.requires.stops
-          (stop-form stop (get_or whole place no_entry).item c.requires.stop).0 (may_stop c.self.inside.listing stop)
-          (shelf_by whole old) c.refresh_stopped.new.tracks.items c.refresh_stopped.ensures.tracks
-          (stop-passes whole place c.args.newest.now.last stop c.requires.stop (shelf_by whole old) longer.1) longer.1;
-    }
+returns c = refreshed (goal.at.returns c).After-of c.loop-listed.tracks.items _ (λ number. grind (arith, common_steps, c.loop-listed.invariant.tracks number))

@@ -1,17 +1,22 @@
 -- Each form of entry bears on one table; an upload and a status bear on the shelf of one product.
-use Rattle.mv_repository.proofs.Lemmas.{◌≡◌, IsShelved, rules, get_or, take, no_entry, arith, none-noted, other-noted, master-form, masters-at, stops-at, same-at, shelves-at, named-at, unwrap_or, ◌∙◌, master-in, shelf-written, upload-in, status-in, sym, tables-follow, tables-noted, refl, IsUploadOf, is_status_of, true, on_err, on_map, map_err, upload-away, upload-form, status-away, status-form, shelf-kept, subst, AreShelfOf, shelves-follow, log-split, named-longer, named-upload}
+use Rattle.mv_repository.proofs.Lemmas.{◌≡◌, IsShelved, rules, get_or, take, no_entry, arith, none-noted, other-noted, masters-at, stops-at, named-at, tables-mastered, comes_late, masters-late-at, masters-latest-at, lookup, bytes_eq, false, unwrap_or, ◌∙◌, master-in, shelf-written, upload-in, status-in, sym, tables-follow, tables-noted, refl, IsUploadOf, is_status_of, true, on_err, on_map, map_err, upload-away, upload-form, status-away, status-form, shelf-kept, subst, AreShelfOf, shelves-follow, log-split, named-longer, named-upload}
 use Rattle.mv_repository.proofs.tables.Tables.add.Goals as goal
 
-pub returns-in_ok-add_master-in-Master-clause-ok : goal.returns-in_ok-add_master-in-Master-clause-ok
-returns-in_ok-add_master-in-Master-clause-ok c =
-    let form = master-form c.in-Master.gtin (get_or c.args.log.now c.args.place no_entry).item (master-in (get_or c.args.log.now c.args.place no_entry).item c.in-Some.message.now _ _ c.in-Some.ensures c.in-Master.is) in
-    let same = same-at c.args.log.now c.args.place c.requires.last form.1 in
-    record {
-      masters = c.in_ok-add_master-in-Master.ensures.ok;
-      stops = stops-at c.args.log.now c.args.place c.requires.last c.args.self.now.stops form.1 c.requires.tables.stops;
-      shelves = shelves-at c.args.log.now c.args.place c.requires.last c.args.self.now.shelves.entries form.0 same c.requires.tables.shelves;
-      named = named-at c.args.log.now c.args.place c.requires.last c.args.self.now.named form.0.1 c.requires.tables.named;
-    }
+pub returns-then-matches-clause-ok : goal.returns-then-matches-clause-ok
+returns-then-matches-clause-ok c =
+    let item = (get_or c.args.log.now c.args.place no_entry).item in
+    let own = master-in item c.in-Some.message.now _ _ c.in-Some.ensures c.in-Master.is in
+    let late : comes_late c.args.log.now c.args.place (lookup (bytes_eq c.in-Master.gtin) c.args.self.now.masters.entries) ≡ true = grind arith in
+    tables-mastered c.args.log.now c.args.place c.requires.last c.args.self.now _ c.in-Master.gtin own c.requires.tables
+    (masters-late-at c.args.log.now c.args.place c.args.self.now.masters.entries c.in-Master.gtin c.requires.last own c.requires.tables.masters late) refl refl refl
+
+pub returns-in_ok-insert-in-Master-clause-ok : goal.returns-in_ok-insert-in-Master-clause-ok
+returns-in_ok-insert-in-Master-clause-ok c =
+    let item = (get_or c.args.log.now c.args.place no_entry).item in
+    let own = master-in item c.in-Some.message.now _ _ c.in-Some.ensures c.in-Master.is in
+    let late : comes_late c.args.log.now c.args.place (lookup (bytes_eq c.in-Master.gtin) c.args.self.now.masters.entries) ≡ false = grind arith in
+    tables-mastered c.args.log.now c.args.place c.requires.last c.args.self.now _ c.in-Master.gtin own c.requires.tables
+    (masters-latest-at c.args.log.now c.args.place c.args.self.now.masters.entries c.in-Master.gtin c.requires.last own c.requires.tables.masters c.insert.new.self.entries late (λ other. search rules)) refl refl refl
 
 pub add_upload-requires-clause-shelf : goal.add_upload-requires-clause-shelf
 add_upload-requires-clause-shelf c = subst (AreShelfOf (take c.args.place c.args.log.now) c.in-Upload.gtin) (sym (c.or_insert-shelf.ensures.value ∙ (λ i. unwrap_or (c.in_ok-shelf-in-Upload.ensures.value i) (c.new.ensures i)))) (c.requires.tables.shelves c.in-Upload.gtin)

@@ -1,37 +1,87 @@
 -- The first works out the packs that it may bear on; any other changes none.
-use Rattle.mv_repository.proofs.Lemmas.{◌≡◌, bytes_eq, rules, ap, subst, get_or, take, true, false, Option, None, lookup, unwrap_or, ShelfParts, AreShelfOf, no_shelf, shelf_of, no_entry, stopped_product, shelf-empty, masters-at, shelves-at, named-at, refl, shelved-none, tables-follow, stop-form, stop-does, stop-leaves, stop-away}
+use Rattle.mv_repository.proofs.Lemmas.{◌≡◌, ◌∙◌, AreStopsOf, arith, bytes_eq, comes_first, rules, ap, refl, subst, sym, get_or, take, true, false, Option, None, lookup, unwrap_or, ShelfParts, AreShelfOf, first_place, no_shelf, recall-added, shelf_of, no_entry, stopped_product, shelf-empty, masters-at, shelves-at, named-at, shelved-none, tables-follow, stop-form, stop-does, stop-leaves, stop-away, withdrawal-added}
+use Rattle.mv_repository.proofs.Words.{AreTablesOf, Bool, effect_of, lasting_effect, not, HasFirst, Tables, is_recall_of, is_same_batch, is_withdrawal_of}
+use Rattle.mv_repository.proofs.tables.Tables.add_stop.Goals.{In_ok-is_first, in-OfBatch, in-OfProduct}
 use Rattle.mv_repository.proofs.tables.Tables.add_stop.Goals as goal
 
+-- the entry stands in the table of its kind, and the other tables stay
+module _ (c : In_ok-is_first) where
+  added : AreStopsOf c.args.log.now c.match-stop.self.stops
+  added = elim c.match-stop.branch [
+    | in-OfBatch w ↦
+        let has : HasFirst is_same_batch c.args.log.now c.args.place w.copy.result c.args.self.now.stops.recalls.entries w.add_first-is_first.new.places.entries = grind arith in
+        let own : is_recall_of w.copy.result (get_or c.args.log.now c.args.place no_entry).item ≡ true = grind arith in
+        let are = recall-added c.args.log.now c.args.place c.requires.last c.args.self.now.stops w.copy.result w.add_first-is_first.new.places.entries c.requires.tables.stops own has in
+        subst (AreStopsOf c.args.log.now) (λ i. (sym w.self-is i).stops) (record { recalls = are.0; withdrawals = are.1 })
+    | in-OfProduct w ↦
+        let has : HasFirst bytes_eq c.args.log.now c.args.place w.in-OfProduct.gtin.now c.args.self.now.stops.withdrawals.entries w.add_first-is_first-in-OfProduct.new.places.entries = grind arith in
+        let own : is_withdrawal_of w.in-OfProduct.gtin.now (get_or c.args.log.now c.args.place no_entry).item ≡ true = grind arith in
+        let are = withdrawal-added c.args.log.now c.args.place c.requires.last c.args.self.now.stops w.in-OfProduct.gtin.now w.add_first-is_first-in-OfProduct.new.places.entries c.requires.tables.stops own has in
+        subst (AreStopsOf c.args.log.now) (λ i. (sym w.self-is i).stops) (record { recalls = are.0; withdrawals = are.1 })
+  ]
+
+  first : c.in_ok-is_first.field-0 ≡ comes_first c.args.log.now c.args.place (first_place c.args.stop.now c.args.self.now.stops)
+  first = elim c.match-stop.branch [ in-OfBatch w ↦ grind arith | in-OfProduct w ↦ grind arith ]
+
+  effect : (b : Bool) → b ≡ c.in_ok-is_first.field-0 → lasting_effect (not b) ≡ effect_of (take c.args.place c.args.log.now) (get_or c.args.log.now c.args.place no_entry)
+  effect b e = stop-does c.args.log.now c.args.place c.requires.last c.args.self.now.stops c.args.stop.now b c.requires.tables.stops c.requires.stop (e ∙ first)
+
+  -- the other tables are those of the log before it
+  abbrev was : Tables
+  was = record c.match-stop.self { stops = c.args.self.now.stops }
+
+  tables : AreTablesOf (take c.args.place c.args.log.now) was
+  tables = elim c.match-stop.branch [
+    | in-OfBatch w ↦ subst (AreTablesOf (take c.args.place c.args.log.now)) (λ i. record (sym w.self-is i) { stops = c.args.self.now.stops }) c.requires.tables
+    | in-OfProduct w ↦ subst (AreTablesOf (take c.args.place c.args.log.now)) (λ i. record (sym w.self-is i) { stops = c.args.self.now.stops }) c.requires.tables
+  ]
+
 pub returns-then-not-branch-clause-ok : goal.returns-then-not-branch-clause-ok
-returns-then-not-branch-clause-ok c = search (rules, masters-at c.args.log.now c.args.place c.requires.last c.args.self.now.masters.entries (stop-form c.args.stop.now (get_or c.args.log.now c.args.place no_entry).item c.requires.stop).1 c.requires.tables.masters, named-at c.args.log.now c.args.place c.requires.last c.args.self.now.named (stop-form c.args.stop.now (get_or c.args.log.now c.args.place no_entry).item c.requires.stop).0.1 c.requires.tables.named, shelves-at c.args.log.now c.args.place c.requires.last c.args.self.now.shelves.entries (stop-form c.args.stop.now (get_or c.args.log.now c.args.place no_entry).item c.requires.stop).0 (stop-leaves c.args.log.now c.args.place c.requires.last c.args.self.now.stops c.args.stop.now c.requires.tables.stops c.requires.stop (search rules)) c.requires.tables.shelves, stop-form c.args.stop.now (get_or c.args.log.now c.args.place no_entry).item c.requires.stop, stop-leaves c.args.log.now c.args.place c.requires.last c.args.self.now.stops c.args.stop.now c.requires.tables.stops c.requires.stop (search rules))
+returns-then-not-branch-clause-ok c =
+    let at = (goal.at.returns-then-not-branch-clause-ok c).In_ok-is_first in
+    let form = stop-form c.args.stop.now (get_or c.args.log.now c.args.place no_entry).item c.requires.stop in
+    let stays = stop-leaves c.args.log.now c.args.place c.requires.last c.args.self.now.stops c.args.stop.now c.requires.tables.stops c.requires.stop (sym (first at) ∙ c.if-not-branch.true) in
+    record {
+      masters = masters-at c.args.log.now c.args.place c.requires.last (was at).masters.entries form.1 (tables at).masters;
+      stops = added at;
+      shelves = shelves-at c.args.log.now c.args.place c.requires.last (was at).shelves.entries form.0 stays (tables at).shelves;
+      named = named-at c.args.log.now c.args.place c.requires.last (was at).named form.0.1 (tables at).named;
+    }
 
 pub returns-then-not-branch-clause-effect : goal.returns-then-not-branch-clause-effect
-returns-then-not-branch-clause-effect c = search (rules, stop-does c.args.log.now c.args.place c.requires.last c.args.self.now.stops c.args.stop.now false c.requires.tables.stops c.requires.stop (search rules))
+returns-then-not-branch-clause-effect c = effect (goal.at.returns-then-not-branch-clause-effect c).In_ok-is_first false (sym c.if-not-branch.true)
 
 pub returns-in_default-clause-ok : goal.returns-in_default-clause-ok
 returns-in_default-clause-ok c =
+    let at = (goal.at.returns-in_default-clause-ok c).In_ok-is_first in
     let form = stop-form c.args.stop.now (get_or c.args.log.now c.args.place no_entry).item c.requires.stop in
     let gtin = stopped_product c.args.stop.now in
-    let none : lookup (bytes_eq gtin) c.args.self.now.shelves.entries ≡ None = search rules in
-    let empty : shelf_of gtin c.args.self.now.shelves.entries ≡ no_shelf = ap (λ (o : Option ShelfParts). unwrap_or o no_shelf) none in
-    let same : c.get_mut.follows.lender-at-none.entries ≡ c.args.self.now.shelves.entries = search rules in
-    tables-follow c.args.log.now c.args.place c.requires.last c.args.self.now _ gtin no_shelf form.1 c.requires.tables refl c.in_ok-add.ensures.ok (shelved-none c.args.self.now.shelves.entries _ gtin same empty)
-    (shelf-empty c.args.log.now c.args.place c.add.new.self gtin c.requires.last c.in_ok-add.ensures.ok form.0 (subst (AreShelfOf (take c.args.place c.args.log.now) gtin) empty (c.requires.tables.shelves gtin)))
-    (stop-away c.args.log.now c.args.place c.requires.last c.args.stop.now c.requires.stop) (named-at c.args.log.now c.args.place c.requires.last c.args.self.now.named form.0.1 c.requires.tables.named)
+    let none : lookup (bytes_eq gtin) (was at).shelves.entries ≡ None = search rules in
+    let empty : shelf_of gtin (was at).shelves.entries ≡ no_shelf = ap (λ (o : Option ShelfParts). unwrap_or o no_shelf) none in
+    let left : c.get_mut.follows.lender-at-none.entries ≡ (was at).shelves.entries = search rules in
+    tables-follow c.args.log.now c.args.place c.requires.last (was at) _ gtin no_shelf form.1 (tables at) refl (added at) (shelved-none (was at).shelves.entries _ gtin left empty)
+    (shelf-empty c.args.log.now c.args.place c.match-stop.self.stops gtin c.requires.last (added at) form.0 (subst (AreShelfOf (take c.args.place c.args.log.now) gtin) empty ((tables at).shelves gtin)))
+    (stop-away c.args.log.now c.args.place c.requires.last c.args.stop.now c.requires.stop) (named-at c.args.log.now c.args.place c.requires.last (was at).named form.0.1 (tables at).named)
 
 pub returns-in_default-clause-effect : goal.returns-in_default-clause-effect
-returns-in_default-clause-effect c = search (rules, stop-does c.args.log.now c.args.place c.requires.last c.args.self.now.stops c.args.stop.now true c.requires.tables.stops c.requires.stop (search rules))
+returns-in_default-clause-effect c = effect (goal.at.returns-in_default-clause-effect c).In_ok-is_first true (sym c.if-not-branch.false)
+
+pub refresh-requires-clause-stops : goal.refresh-requires-clause-stops
+refresh-requires-clause-stops c = added (goal.at.refresh-requires-clause-stops c).In_ok-is_first
 
 pub refresh-requires-clause-shelf : goal.refresh-requires-clause-shelf
 refresh-requires-clause-shelf c =
-    let shelf : shelf_of (stopped_product c.args.stop.now) c.args.self.now.shelves.entries ≡ c.in-Some.shelf.now = search rules in
-    subst (AreShelfOf (take c.args.place c.args.log.now) (stopped_product c.args.stop.now)) shelf (c.requires.tables.shelves (stopped_product c.args.stop.now))
+    let at = (goal.at.refresh-requires-clause-shelf c).In_ok-is_first in
+    let gtin = stopped_product c.args.stop.now in
+    let shelf : shelf_of gtin (was at).shelves.entries ≡ c.in-Some.shelf.now = search rules in
+    subst (AreShelfOf (take c.args.place c.args.log.now) gtin) shelf ((tables at).shelves gtin)
 
 pub returns-clause-ok : goal.returns-clause-ok
 returns-clause-ok c =
+    let at = (goal.at.returns-clause-ok c).In_ok-is_first in
     let form = stop-form c.args.stop.now (get_or c.args.log.now c.args.place no_entry).item c.requires.stop in
-    tables-follow c.args.log.now c.args.place c.requires.last c.args.self.now _ (stopped_product c.args.stop.now) c.refresh.new.self form.1 c.requires.tables refl c.in_ok-add.ensures.ok (λ other. search rules)
-    c.refresh.ensures (stop-away c.args.log.now c.args.place c.requires.last c.args.stop.now c.requires.stop) (named-at c.args.log.now c.args.place c.requires.last c.args.self.now.named form.0.1 c.requires.tables.named)
+    tables-follow c.args.log.now c.args.place c.requires.last (was at) _ (stopped_product c.args.stop.now) c.refresh.new.self form.1 (tables at) refl (added at) (λ other. search rules)
+    c.refresh.ensures (stop-away c.args.log.now c.args.place c.requires.last c.args.stop.now c.requires.stop) (named-at c.args.log.now c.args.place c.requires.last (was at).named form.0.1 (tables at).named)
 
 pub returns-clause-effect : goal.returns-clause-effect
-returns-clause-effect c = search (rules, stop-does c.args.log.now c.args.place c.requires.last c.args.self.now.stops c.args.stop.now true c.requires.tables.stops c.requires.stop (search rules))
+returns-clause-effect c = effect (goal.at.returns-clause-effect c).In_ok-is_first true (sym c.if-not-branch.false)

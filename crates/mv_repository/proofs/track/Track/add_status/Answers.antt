@@ -16,8 +16,8 @@ put_late-effect-requires c =
     (search rules) (subst (λ (l : List ℕ). c.place_for-at.result ≤ length l) slice c.place_for-at.ensures.within) (search rules) in
     record { within = grind (arith, common_steps); blocks = late.0; standing = late.1 }
 
-pub returns-in_default-birth : goal.returns-in_default-birth
-returns-in_default-birth c =
+pub returns-in_default : goal.returns-in_default
+returns-in_default c =
     let whole = c.args.newest.now.log.now in
     let place = c.args.newest.now.place in
     let old : Kept = record { birth = c.self.inside.birth; statuses = c.self.inside.statuses.items; by = c.self.inside.by; blocks = c.self.inside.blocks.items } in

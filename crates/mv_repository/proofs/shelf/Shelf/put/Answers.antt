@@ -1,6 +1,6 @@
 -- The slot goes under its serial number.
 use Rattle.mv_repository.proofs.Lemmas.{IsWritten, SlotTable, arith, subst, sym, written-behind, written-there, ◌∙◌}
-use Rattle.mv_repository.proofs.slots.Slots.put.Goals as goal
+use Rattle.mv_repository.proofs.shelf.Shelf.put.Goals as goal
 
 pub returns-then-spot-len-clause-written : goal.returns-then-spot-len-clause-written
 returns-then-spot-len-clause-written c =

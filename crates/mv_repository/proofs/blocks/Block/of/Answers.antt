@@ -1,8 +1,8 @@
 -- One status more.
 use Rattle.mv_repository.proofs.Lemmas.{arith, common_steps, entry_at, covered-more}
-use Rattle.mv_repository.proofs.blocks.reverters_of.Goals as goal
+use Rattle.mv_repository.proofs.blocks.Block.of.Goals as goal
 
 pub loop-place-preserved : goal.loop-place-preserved
 loop-place-preserved c =
-    covered-more (entry_at c.args.log.now) c.loop-place.reverters _ c.args.own.now c.loop-place.place-index c.loop-place-test.true
+    covered-more (entry_at c.args.basis.now.log.now) c.loop-place.reverters _ c.args.own.now c.loop-place.place-index c.loop-place-test.true
     (λ other h. grind (arith, common_steps)) (λ active. grind (arith, common_steps)) c.loop-place.invariant

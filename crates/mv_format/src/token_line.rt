@@ -10,10 +10,11 @@ use crate::kind::kind_of;
 use crate::line_part::{LineEntry, LineObject, LinePart, MOST_FIELDS, adds, are_among};
 use crate::{LineFault, LineField, Request};
 use arrayvec::ArrayVec;
-use json::{Reader, Scratch, Token};
+use json::{Scratch, Token};
 use mv_json::take_message;
 use mv_json::tokens::{take_text, take_whole, takes_opening};
 use mv_message::Shared;
+use mv_tokens::Reader;
 use std::alloc::Global;
 
 /// What a line asks, its keys in any order, in memory that is kept from line to line. What asks no step, or has a key twice,

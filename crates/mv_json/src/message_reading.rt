@@ -14,8 +14,9 @@ use crate::object::Object;
 use crate::part_reading::take_members;
 use crate::readers::message_at;
 use crate::tokens::takes_opening;
-use json::{Reader, Scratch};
+use json::Scratch;
 use mv_message::{Message, Text};
+use mv_tokens::Reader;
 use serde_json::Value;
 use std::alloc::Global;
 

@@ -2,7 +2,7 @@
 
 ghost use Rattle.std.specs.Prelude.{◌≡◌, ◌≤◌, ℕ, List, ◌∷◌, length, Ok, IfSome, MatchOption, suc};
 ghost use Rattle.json.specs.Reads.{token_of};
-ghost use Rattle.json.specs.Token.{Token as AToken, begin_array, begin_object, end_object, key};
+ghost use Rattle.json.specs.Token.{Token as AToken, begin_array, begin_object, end_array, end_object, key};
 ghost use Rattle.mv_json.specs.Fields.{field_name};
 ghost use Rattle.mv_json.specs.inside.Parts.{BeginWithPart, BeginWithEntries, BeginWithText, BeginWithTexts, deep_in};
 
@@ -12,8 +12,9 @@ use crate::lists::{Listed, MOST_MARKETS, MOST_SERIALS};
 use crate::object::Object;
 use crate::part::{Entry, Part, Sighting, adds};
 use crate::tokens::whole_of;
-use json::{Reader, Token};
+use json::Token;
 use mv_message::Boxed;
+use mv_tokens::Reader;
 use std::alloc::Global;
 
 /// How many fields a message has at most.
@@ -190,11 +191,11 @@ fn take_list<T: Listed>(alloc: Global, reader: &mut Reader<'_>, most: usize) -> 
     let Ok(mut list) = Vec::with_capacity(alloc, most) else {
         return None;
     };
-    while !reader.take_end_array() {
+    while let Some(item) = next_item(reader)? {
         if list.len() == most {
             return None;
         }
-        list.push_reserved(take_item(reader)?);
+        list.push_reserved(item);
     }
     if list.is_empty() {
         return None;
@@ -202,12 +203,16 @@ fn take_list<T: Listed>(alloc: Global, reader: &mut Reader<'_>, most: usize) -> 
     Some(list)
 }
 
-/// Takes a value of a list. The token is taken here, since most of what is read are these.
-fn take_item<T: Listed>(reader: &mut Reader<'_>) -> Option<T>
-    ensures { IfSome result (λ value. BeginWithText reader.old (λ text. T.reads text ≡ Ok value) reader.new) }
+/// Takes a value of a list, or the end of the list, which is none.
+#[inline(always)]
+fn next_item<T: Listed>(reader: &mut Reader<'_>) -> Option<Option<T>>
+    ensures { IfSome result (λ next. MatchOption next
+        (reader.old ≡ end_array ∷ reader.new)
+        (λ value. BeginWithText reader.old (λ text. T.reads text ≡ Ok value) reader.new)) }
 {
     match reader.next()? {
-        Token::String(text) => T::from_text(text).ok(),
+        Token::String(text) => Some(Some(T::from_text(text).ok()?)),
+        Token::EndArray => Some(None),
         _ => None,
     }
 }

@@ -6,7 +6,8 @@ ghost use Rattle.mv_json.specs.Words.{number_of, unsigned};
 ghost use Rattle.json.specs.Token.{Token as AToken, begin_object, string, number};
 
 use fast_float::Numeral;
-use json::{Reader, Token};
+use json::Token;
+use mv_tokens::Reader;
 
 /// Takes the brace that opens an object, and says whether it was next.
 pub fn takes_opening(reader: &mut Reader<'_>) -> bool

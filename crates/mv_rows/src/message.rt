@@ -1,7 +1,7 @@
 //! Messages: that copies equal what was copied, and that values are read back. Which lines are read, why others are not, and
 //! what is written is shown by the examples of `mvhub canon`.
 
-use json::{Reader, Scratch};
+use json::Scratch;
 use mv_json::MessageFault;
 use mv_message::{Found, Markets, Message, Serials, Shared, Standing, Text, laws};
 use mv_pack::{Batch, BatchKey, Expiry, Gtin, Market, Moment, PackKey, Serial};

@@ -22,4 +22,4 @@ take_members-returns t c = all_met _ _ _ _ _ _ (rw (rw c.in_default-2.is at c.in
 
 pub take_part-returns-in_default : goal.take_part-returns-in_default
 take_part-returns-in_default t c =
-    rw c.in_ok-token.ensures.value (IfSome_then _ c.single.ensures (λ part (says : (deep : ℕ) (rest : List Token) → BeginWithPart deep (_ ∷ rest) part rest). says _ _))
+    rw c.in_ok-token.ensures (IfSome_then _ c.single.ensures (λ part (says : (deep : ℕ) (rest : List Token) → BeginWithPart deep (_ ∷ rest) part rest). says _ _))

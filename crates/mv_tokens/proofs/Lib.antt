@@ -1,0 +1,3 @@
+pub mod Words
+pub mod LexLemmas
+pub mod ReaderLemmas

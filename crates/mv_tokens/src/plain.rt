@@ -1,0 +1,208 @@
+//! Takes the plain tokens of a text, one at a time. What is not plain gives none.
+
+ghost use Rattle.std.specs.Prelude.{◌≡◌, ◌+◌, ◌<◌, ◌≤◌, ◌∷◌, length, drop, get_or, IfSome, false, true, ◌||◌};
+ghost use Rattle.std.specs.Str.{IsCharBoundary};
+ghost use Rattle.std.specs.List.{prefix_len};
+ghost use Rattle.std.specs.Char.{is_ascii_digit};
+ghost use Rattle.json.specs.Word.{ends_word, is_operator, is_space, literal};
+ghost use Rattle.json.specs.Lex.{between, lex, after_value, punctuate, begins_colon};
+ghost use Rattle.json.specs.Run.{is_plain};
+ghost use Rattle.json.specs.Reads.{token_of};
+ghost use Rattle.json.specs.Word.{word};
+ghost use Rattle.json.specs.Cursor.{is_leaf};
+ghost use Rattle.std.specs.List.{list_all};
+ghost use Rattle.mv_tokens.specs.inside.Plain.{GoesOn, Steps, is_letter};
+
+use json::Token;
+
+/// Takes the token that is next behind a place, and gives where the text goes on.
+#[inline(always)]
+pub(crate) fn plain_token<'a>(text: &'a str, from: usize) -> Option<(Token<'a>, usize)>
+    requires place { IsCharBoundary text.now from }
+    ensures { IfSome result (λ step. Steps text.now from (token_of step.0) step.1) }
+{
+    let bytes = text.as_bytes();
+    let at = past_blanks(text, from);
+    if at == bytes.len() {
+        return None;
+    }
+    match bytes[at] {
+        b'"' => plain_string(text, at),
+        b'{' => Some((Token::BeginObject, at + 1)),
+        b'[' => Some((Token::BeginArray, at + 1)),
+        b'}' => Some((Token::EndObject, value_end(text, at + 1)?)),
+        b']' => Some((Token::EndArray, value_end(text, at + 1)?)),
+        b'0'..=b'9' => plain_number(text, at),
+        b'n' => plain_word(text, at, b"null", Token::Null),
+        b't' => plain_word(text, at, b"true", Token::Bool(true)),
+        b'f' => plain_word(text, at, b"false", Token::Bool(false)),
+        _ => None,
+    }
+}
+
+/// The place of the next byte that is no blank, or the end.
+#[inline(always)]
+pub(crate) fn past_blanks(text: &str, from: usize) -> usize
+    requires place { IsCharBoundary text.now from }
+    ensures lexemes { lex between (drop result text.now) ≡ lex between (drop from text.now) }
+    ensures place { IsCharBoundary text.now result }
+{
+    let bytes = text.as_bytes();
+    let mut at = from;
+    while at < bytes.len() && is_blank(bytes[at]) {
+        at += 1;
+    }
+    at
+}
+
+/// Whether a byte is a blank.
+#[inline(always)]
+fn is_blank(byte: u8) -> bool
+    ensures { result ≡ is_space byte }
+{
+    matches!(byte, b' ' | b'\t' | b'\n' | b'\r')
+}
+
+/// Where the text goes on behind a value, as at its beginning: at the next key or value behind a comma, or at what closes.
+#[inline(always)]
+fn value_end(text: &str, end: usize) -> Option<usize>
+    requires place { IsCharBoundary text.now end }
+    ensures { IfSome result (λ at. GoesOn text.now end at) }
+{
+    let bytes = text.as_bytes();
+    let at = past_blanks(text, end);
+    if at == bytes.len() {
+        return Some(at);
+    }
+    if bytes[at] == b'}' || bytes[at] == b']' {
+        return Some(at);
+    }
+    if bytes[at] != b',' {
+        return None;
+    }
+    let next = past_blanks(text, at + 1);
+    if next == bytes.len() || bytes[next] != b'"' {
+        return None;
+    }
+    Some(next)
+}
+
+/// Takes a text that begins at a quote and has no escape, or a key.
+#[inline(always)]
+fn plain_string<'a>(text: &'a str, at: usize) -> Option<(Token<'a>, usize)>
+    requires within { at < length text.now }
+    requires quote { get_or text.now at 0 ≡ 34 }
+    ensures { IfSome result (λ step. Steps text.now at (token_of step.0) step.1) }
+{
+    let bytes = text.as_bytes();
+    let start = at + 1;
+    let stop = plain_end(bytes, start);
+    if stop == bytes.len() || bytes[stop] != b'"' {
+        return None;
+    }
+    let string = &text[start..stop];
+    let next = past_blanks(text, stop + 1);
+    if next < bytes.len() && bytes[next] == b':' {
+        return Some((Token::Key(string), next + 1));
+    }
+    Some((Token::String(string), value_end(text, next)?))
+}
+
+/// The place of the first byte that is not plain in a text: a quote, a backslash or a control character; or the end.
+#[inline(always)]
+fn plain_end(bytes: &[u8], from: usize) -> usize
+    requires within { from ≤ length bytes.now }
+    ensures within { result ≤ length bytes.now }
+    ensures value { result ≡ from + prefix_len is_plain (drop from bytes.now) }
+{
+    let mut at = from;
+    while at < bytes.len() && is_plain(bytes[at]) {
+        at += 1;
+    }
+    at
+}
+
+/// Whether a byte stands for itself in a text.
+#[inline(always)]
+fn is_plain(byte: u8) -> bool
+    ensures { result ≡ is_plain byte }
+{
+    byte != b'"' && byte != b'\\' && byte >= 0x20
+}
+
+/// Takes a whole number that has no sign.
+#[inline(always)]
+fn plain_number<'a>(text: &'a str, at: usize) -> Option<(Token<'a>, usize)>
+    requires place { IsCharBoundary text.now at }
+    requires within { at < length text.now }
+    requires digit { is_ascii_digit (get_or text.now at 0) ≡ true }
+    ensures { IfSome result (λ step. Steps text.now at (token_of step.0) step.1) }
+{
+    let bytes = text.as_bytes();
+    let end = digits_end(bytes, at);
+    if bytes[at] == b'0' && end > at + 1 {
+        return None;
+    }
+    if !is_word_end(bytes, end) {
+        return None;
+    }
+    Some((Token::Number(&text[at..end]), value_end(text, end)?))
+}
+
+/// The place behind the digits that begin at a place.
+#[inline(always)]
+fn digits_end(bytes: &[u8], from: usize) -> usize
+    requires within { from ≤ length bytes.now }
+    ensures within { result ≤ length bytes.now }
+    ensures value { result ≡ from + prefix_len is_ascii_digit (drop from bytes.now) }
+{
+    let mut at = from;
+    while at < bytes.len() && bytes[at].is_ascii_digit() {
+        at += 1;
+    }
+    at
+}
+
+/// Takes one of the three words.
+#[inline(always)]
+fn plain_word<'a>(
+    text: &'a str,
+    at: usize,
+    name: &[u8],
+    token: Token<'a>,
+) -> Option<(Token<'a>, usize)>
+    requires within { at < length text.now }
+    requires letter { is_letter (get_or text.now at 0) ≡ true }
+    requires letters { list_all is_letter name.now ≡ true }
+    requires word { word (drop at text.now) ≡ literal name.now (token_of token) (drop at text.now) }
+    requires good { is_leaf (token_of token) ≡ true }
+    ensures { IfSome result (λ step. Steps text.now at (token_of step.0) step.1) }
+{
+    let bytes = text.as_bytes();
+    let rest = &bytes[at..];
+    if !rest.starts_with(name) {
+        return None;
+    }
+    let end = at + name.len();
+    if !is_word_end(bytes, end) {
+        return None;
+    }
+    Some((token, value_end(text, end)?))
+}
+
+/// Whether a number or a word ends before a place.
+#[inline(always)]
+fn is_word_end(bytes: &[u8], end: usize) -> bool
+    requires within { end ≤ length bytes.now }
+    ensures { result ≡ ends_word (drop end bytes.now) }
+{
+    end == bytes.len() || is_delimiter(bytes[end])
+}
+
+/// Whether a byte ends a number or a word.
+#[inline(always)]
+fn is_delimiter(byte: u8) -> bool
+    ensures { result ≡ (is_operator byte || is_space byte) }
+{
+    matches!(byte, b'{' | b'}' | b'[' | b']' | b':' | b',') || is_blank(byte)
+}

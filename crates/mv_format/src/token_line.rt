@@ -1,6 +1,6 @@
 //! Reads lines by their tokens, with no value in between, their keys in any order.
 
-ghost use Rattle.std.specs.Prelude.{◌≡◌, ◌∷◌, Ok, IfOk, IfSome, MatchOption};
+ghost use Rattle.std.specs.Prelude.{◌≡◌, ◌∷◌, [], Ok, IfOk, IfSome, IsTrue, MatchOption};
 ghost use Rattle.mv_format.specs.Words.{Data, begin_object, end_object, key};
 ghost use Rattle.mv_format.specs.Fields.{field_name};
 ghost use Rattle.mv_format.specs.inside.LineParts.{Asks, BeginWithEntries, BeginWithPart, HasEntries};
@@ -12,7 +12,6 @@ use crate::{LineFault, LineField, Request};
 use arrayvec::ArrayVec;
 use json::{Scratch, Token};
 use mv_json::take_message;
-use mv_json::tokens::{take_text, take_whole, takes_opening};
 use mv_message::Shared;
 use mv_tokens::Reader;
 use std::alloc::Global;
@@ -25,9 +24,12 @@ pub(crate) fn read_by_tokens(alloc: Global, scratch: &mut Scratch, line: &[u8]) 
     let Ok(text) = simdutf8::basic::from_utf8(line) else {
         return None;
     };
-    let mut reader = Reader::new(text, scratch).ok()?;
+    if scratch.reserve(text.len()).is_err() {
+        return None;
+    }
+    let mut reader = Reader::new(text, scratch);
     let request = take_request(alloc, &mut reader)?;
-    if reader.next().is_some() {
+    if !reader.is_done() {
         return None;
     }
     Some(request)
@@ -37,10 +39,13 @@ pub(crate) fn read_by_tokens(alloc: Global, scratch: &mut Scratch, line: &[u8]) 
 fn take_request(alloc: Global, reader: &mut Reader<'_>) -> Option<Request>
     ensures { IfSome result (λ request. Asks reader.old request reader.new) }
 {
-    if !takes_opening(reader) {
+    if !reader.takes_opening() {
         return None;
     }
-    let entries = take_members(alloc, reader)?;
+    let mut entries = ArrayVec::new();
+    if !takes_members(alloc, reader, &mut entries) {
+        return None;
+    }
     request_met(alloc, &entries).ok()
 }
 
@@ -58,23 +63,29 @@ fn request_met(alloc: Global, entries: &[LineEntry<'_>]) -> Result<Request, Line
     Ok(request)
 }
 
-/// Takes the rest of an object, behind its opening brace, with its fields in any order, each once.
+/// Takes the rest of an object, behind its opening brace, with its fields in any order, each once, and says whether it could.
 #[tactic(auto, using(crate::proofs::LinePartLemmas::no_entry, crate::proofs::LinePartLemmas::one_more_entry, crate::proofs::LinePartLemmas::all_entries))]
-fn take_members<'a>(
+fn takes_members<'a>(
     alloc: Global,
     reader: &mut Reader<'a>,
-) -> Option<ArrayVec<LineEntry<'a>, MOST_FIELDS>>
-    ensures { IfSome result (λ entries.
-        BeginWithEntries (begin_object ∷ reader.old) entries.items reader.new) }
+    entries: &mut ArrayVec<LineEntry<'a>, MOST_FIELDS>,
+) -> bool
+    requires none { entries.old.items ≡ [] }
+    ensures { IsTrue result
+        → BeginWithEntries (begin_object ∷ reader.old) entries.new.items reader.new }
 {
-    let mut entries = ArrayVec::new();
-    while let Some(field) = next_field(reader)? {
-        let part = take_part(alloc, reader, field)?;
-        if !adds(&mut entries, field, part) {
-            return None;
+    while let Some(next) = next_field(reader) {
+        let Some(field) = next else {
+            return true;
+        };
+        let Some(part) = take_part(alloc, reader, field) else {
+            return false;
+        };
+        if !adds(entries, field, part) {
+            return false;
         }
     }
-    Some(entries)
+    false
 }
 
 /// Takes the key of a field, or the end of the object, which is none.
@@ -114,7 +125,7 @@ fn take_part<'a>(alloc: Global, reader: &mut Reader<'a>, field: LineField) -> Op
 {
     match field {
         LineField::Do | LineField::Gtin | LineField::Serial => {
-            let text = take_text(reader)?;
+            let text = reader.take_text()?;
             Some(LinePart::Text(text))
         }
         LineField::Message => {
@@ -122,7 +133,7 @@ fn take_part<'a>(alloc: Global, reader: &mut Reader<'a>, field: LineField) -> Op
             Some(LinePart::Message(message))
         }
         LineField::From | LineField::Number | LineField::Party | LineField::Q | LineField::To => {
-            let number = u32::try_from(take_whole(reader)?).ok()?;
+            let number = u32::try_from(reader.take_whole()?).ok()?;
             Some(LinePart::Number(number))
         }
         _ => None,

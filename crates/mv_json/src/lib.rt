@@ -30,7 +30,6 @@ mod part;
 mod part_reading;
 mod readers;
 mod reading;
-pub mod tokens;
 mod writing;
 
 pub use fault::MessageFault;

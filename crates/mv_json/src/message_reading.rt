@@ -13,7 +13,6 @@ use crate::members::first_unknown;
 use crate::object::Object;
 use crate::part_reading::take_members;
 use crate::readers::message_at;
-use crate::tokens::takes_opening;
 use json::Scratch;
 use mv_message::{Message, Text};
 use mv_tokens::Reader;
@@ -72,7 +71,7 @@ pub fn from_value(alloc: Global, value: &Value) -> Result<Message, MessageFault>
 pub fn take_message(alloc: Global, reader: &mut Reader<'_>) -> Option<Message>
     ensures { IfSome result (λ message. BeginWithMessage reader.old message reader.new) }
 {
-    if !takes_opening(reader) {
+    if !reader.takes_opening() {
         return None;
     }
     let mut object = Object::Met(take_members(alloc, reader, false)?);
@@ -101,11 +100,12 @@ fn read_by_tokens(alloc: Global, scratch: &mut Scratch, bytes: &[u8]) -> Option<
     let Ok(text) = simdutf8::basic::from_utf8(bytes) else {
         return None;
     };
-    let Ok(mut reader) = Reader::new(text, scratch) else {
+    if scratch.reserve(text.len()).is_err() {
         return None;
-    };
+    }
+    let mut reader = Reader::new(text, scratch);
     let message = take_message(alloc, &mut reader)?;
-    if reader.next().is_some() {
+    if !reader.is_done() {
         return None;
     }
     Some(message)

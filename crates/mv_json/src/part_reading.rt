@@ -11,10 +11,9 @@ use crate::found_reading::sighting_in;
 use crate::lists::{Listed, MOST_MARKETS, MOST_SERIALS};
 use crate::object::Object;
 use crate::part::{Entry, Part, Sighting, adds};
-use crate::tokens::whole_of;
 use json::Token;
 use mv_message::Boxed;
-use mv_tokens::Reader;
+use mv_tokens::{Reader, whole_of};
 use std::alloc::Global;
 
 /// How many fields a message has at most.

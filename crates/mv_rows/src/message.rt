@@ -5,6 +5,7 @@ use json::Scratch;
 use mv_json::MessageFault;
 use mv_message::{Found, Markets, Message, Serials, Shared, Standing, Text, laws};
 use mv_pack::{Batch, BatchKey, Expiry, Gtin, Market, Moment, PackKey, Serial};
+use mv_tokens::Reader;
 use std::alloc::Global;
 
 const MASTER: &str =
@@ -178,7 +179,8 @@ fn recall(alloc: Global, gtin: &str, batch: &str, at: u64) -> Option<Shared<Mess
 /// The message that the tokens of a text are.
 fn taken(alloc: Global, text: &str) -> Option<Shared<Message>> {
     let mut scratch = Scratch::new(alloc);
-    let mut reader = Reader::new(text, &mut scratch).ok()?;
+    scratch.reserve(text.len()).ok()?;
+    let mut reader = Reader::new(text, &mut scratch);
     Shared::new(alloc, mv_json::take_message(alloc, &mut reader)?).ok()
 }
 

@@ -7,7 +7,9 @@
 
 mod plain;
 mod reader;
+mod whole;
 
 
 
 pub use reader::Reader;
+pub use whole::whole_of;

@@ -1,6 +1,6 @@
 //! Takes the plain tokens of a text, one at a time. What is not plain gives none.
 
-ghost use Rattle.std.specs.Prelude.{◌≡◌, ◌+◌, ◌<◌, ◌≤◌, ◌∷◌, length, drop, get_or, IfSome, false, true, ◌||◌};
+ghost use Rattle.std.specs.Prelude.{◌≡◌, ◌+◌, ◌<◌, ◌≤◌, ◌∷◌, ℕ, List, Some, length, drop, get_or, IfSome, false, true, ◌||◌};
 ghost use Rattle.std.specs.Str.{IsCharBoundary};
 ghost use Rattle.std.specs.List.{prefix_len};
 ghost use Rattle.std.specs.Char.{is_ascii_digit};
@@ -8,11 +8,15 @@ ghost use Rattle.json.specs.Word.{ends_word, is_operator, is_space, literal};
 ghost use Rattle.json.specs.Lex.{between, lex, after_value, punctuate, begins_colon};
 ghost use Rattle.json.specs.Run.{is_plain};
 ghost use Rattle.json.specs.Reads.{token_of};
+ghost use Rattle.json.specs.Token.{number};
+ghost use Rattle.serde_json.specs.Data.{unsigned};
+ghost use Rattle.serde_json.specs.Read.{number_of};
 ghost use Rattle.json.specs.Word.{word};
 ghost use Rattle.json.specs.Cursor.{is_leaf};
 ghost use Rattle.std.specs.List.{list_all};
 ghost use Rattle.mv_tokens.specs.inside.Plain.{GoesOn, Steps, is_letter};
 
+use crate::whole::whole_of;
 use json::Token;
 
 /// Takes the token that is next behind a place, and gives where the text goes on.
@@ -32,7 +36,10 @@ pub(crate) fn plain_token<'a>(text: &'a str, from: usize) -> Option<(Token<'a>, 
         b'[' => Some((Token::BeginArray, at + 1)),
         b'}' => Some((Token::EndObject, value_end(text, at + 1)?)),
         b']' => Some((Token::EndArray, value_end(text, at + 1)?)),
-        b'0'..=b'9' => plain_number(text, at),
+        b'0'..=b'9' => {
+            let (digits, on) = plain_digits(text, at)?;
+            Some((Token::Number(digits), on))
+        }
         b'n' => plain_word(text, at, b"null", Token::Null),
         b't' => plain_word(text, at, b"true", Token::Bool(true)),
         b'f' => plain_word(text, at, b"false", Token::Bool(false)),
@@ -130,13 +137,29 @@ fn is_plain(byte: u8) -> bool
     byte != b'"' && byte != b'\\' && byte >= 0x20
 }
 
+/// Takes the whole number that is next behind a place and has no sign, where it has 64 bits, and gives where the text goes on.
+#[inline(always)]
+pub(crate) fn plain_whole(text: &str, from: usize) -> Option<(u64, usize)>
+    requires place { IsCharBoundary text.now from }
+    ensures { IfSome result (λ step. (digits : List ℕ)
+        × Steps text.now from (number digits) step.1 × (number_of digits ≡ Some (unsigned step.0))) }
+{
+    let bytes = text.as_bytes();
+    let at = past_blanks(text, from);
+    if at == bytes.len() || !bytes[at].is_ascii_digit() {
+        return None;
+    }
+    let (digits, on) = plain_digits(text, at)?;
+    Some((whole_of(digits)?, on))
+}
+
 /// Takes a whole number that has no sign.
 #[inline(always)]
-fn plain_number<'a>(text: &'a str, at: usize) -> Option<(Token<'a>, usize)>
+fn plain_digits<'a>(text: &'a str, at: usize) -> Option<(&'a str, usize)>
     requires place { IsCharBoundary text.now at }
     requires within { at < length text.now }
     requires digit { is_ascii_digit (get_or text.now at 0) ≡ true }
-    ensures { IfSome result (λ step. Steps text.now at (token_of step.0) step.1) }
+    ensures { IfSome result (λ step. Steps text.now at (number step.0.now) step.1) }
 {
     let bytes = text.as_bytes();
     let end = digits_end(bytes, at);
@@ -146,7 +169,7 @@ fn plain_number<'a>(text: &'a str, at: usize) -> Option<(Token<'a>, usize)>
     if !is_word_end(bytes, end) {
         return None;
     }
-    Some((Token::Number(&text[at..end]), value_end(text, end)?))
+    Some((&text[at..end], value_end(text, end)?))
 }
 
 /// The place behind the digits that begin at a place.

@@ -1,18 +1,19 @@
 //! The reader of tokens.
 
-ghost use Rattle.std.specs.Prelude.{◌≡◌, ◌≤◌, ◌<◌, ◌∷◌, [], length, drop, None, IfSome, IfOk, OnErr, MatchOption};
-ghost use Rattle.std.specs.Bool.{MatchBool};
+ghost use Rattle.std.specs.Prelude.{◌≡◌, ◌≢◌, ◌≤◌, ◌∷◌, [], ℕ, List, Some, length, IfSome, IfNone, IsTrue, IsFalse, MatchOption};
 ghost use Rattle.std.specs.Str.{IsCharBoundary};
-ghost use Rattle.json.specs.Json.{after_end_array};
 ghost use Rattle.json.specs.Lex.{tokens};
 ghost use Rattle.json.specs.Reads.{token_of};
 ghost use Rattle.json.specs.Scratch.{room};
+ghost use Rattle.json.specs.Token.{Token as AToken, begin_object, string, number};
+ghost use Rattle.serde_json.specs.Data.{unsigned};
+ghost use Rattle.serde_json.specs.Read.{number_of};
 ghost use Rattle.mv_tokens.specs.inside.Plain.{tokens_from};
 ghost use Rattle.mv_tokens.specs.inside.Reader.{HasRoom};
 
-use crate::plain::{past_blanks, plain_token};
+use crate::plain::{past_blanks, plain_token, plain_whole};
+use crate::whole::whole_of;
 use json::{Scratch, Token};
-use std::alloc::AllocError;
 use std::marker::Model;
 
 /// Hands out the tokens of a text. A clause sees those that are still to come.
@@ -44,19 +45,18 @@ impl<'a> Model for Reader<'a> {
 }
 
 impl<'a> Reader<'a> {
-    /// A reader of a text. The memory is for texts with escapes: they are written there, so it grows to the length of the longest text.
+    /// A reader of a text. The memory is for texts with escapes, which are written there: it has room for the text.
     #[inline(always)]
-    pub fn new(text: &'a str, scratch: &'a mut Scratch) -> Result<Reader<'a>, AllocError>
-        ensures ok { IfOk result (λ reader. reader ≡ tokens text.now) }
-        ensures full { OnErr result (room scratch.old < length text.now) }
+    pub fn new(text: &'a str, scratch: &'a mut Scratch) -> Reader<'a>
+        requires room { length text.now ≤ room scratch.old }
+        ensures { result ≡ tokens text.now }
     {
-        scratch.reserve(text.len())?;
-        Ok(Reader {
+        Reader {
             text,
             at: 0,
             scratch: Some(scratch),
             library: None,
-        })
+        }
     }
 
     /// The next token; none at the end, and behind a token that is no JSON.
@@ -71,6 +71,60 @@ impl<'a> Reader<'a> {
                 Some(token)
             }
             None => self.next_by_library(),
+        }
+    }
+
+    /// Whether there is no further token. Where there is one, it is taken.
+    #[inline(always)]
+    pub fn is_done(&mut self) -> bool
+        ensures { IsTrue result → self.old ≡ [] }
+    {
+        self.next().is_none()
+    }
+
+    /// Takes the next token, and says whether it is the brace that opens an object.
+    pub fn takes_opening(&mut self) -> bool
+        ensures opening { IsTrue result → self.old ≡ begin_object ∷ self.new }
+        ensures other { IsFalse result → (rest : List AToken) → self.old ≢ begin_object ∷ rest }
+    {
+        matches!(self.next(), Some(Token::BeginObject))
+    }
+
+    /// Takes the next token, and gives its text, where it is one.
+    #[inline(always)]
+    pub fn take_text(&mut self) -> Option<&'a str>
+        ensures text { IfSome result (λ text. self.old ≡ string text.now ∷ self.new) }
+        ensures none { IfNone result ((text : List ℕ) (rest : List AToken) → self.old ≢ string text ∷ rest) }
+    {
+        match self.next() {
+            Some(Token::String(text)) => Some(text),
+            _ => None,
+        }
+    }
+
+    /// Takes the next token, and gives its number, where it is a whole one of 64 bits and has no sign.
+    #[inline(always)]
+    pub fn take_whole(&mut self) -> Option<u64>
+        ensures { IfSome result (λ n. (text : List ℕ)
+            × (self.old ≡ number text ∷ self.new) × (number_of text ≡ Some (unsigned n))) }
+    {
+        match plain_whole(self.text, self.at) {
+            Some((number, at)) => {
+                self.at = at;
+                Some(number)
+            }
+            None => self.take_any_whole(),
+        }
+    }
+
+    /// Does what `take_whole` does, where the number need not be plain.
+    fn take_any_whole(&mut self) -> Option<u64>
+        ensures { IfSome result (λ n. (text : List ℕ)
+            × (self.old ≡ number text ∷ self.new) × (number_of text ≡ Some (unsigned n))) }
+    {
+        match self.next() {
+            Some(Token::Number(text)) => whole_of(text),
+            _ => None,
         }
     }
 

@@ -1,5 +1,5 @@
 -- What the lexer of the library makes of plain text, step by step.
-use Rattle.mv_tokens.proofs.Words.{take_all, is_leaf, Class, Lexeme, Mode, Place, after_comma, after_value, begins_colon, backslash, between, class, fresh, in_string, in_word, lex_byte, operator, other, place_token, quote, space, string_token, token, tokens, lex, punctuate, is_plain, after_backslash, plain, prepend, content, Token, bad, begin_array, begin_object, boolean, end_array, end_object, key, null, number, string, after_exponent, after_fraction, after_minus, after_whole, ends_word, head, is_operator, is_space, literal, number_before, after_number, word, GoesOn, Steps, is_letter, tokens_from, inl, inr, ◌⊎◌, Bool, IsUtf8, List, None, nat_eq, nat_lt, Option, Some, [], ap, arith, cond, drop, false, get_or, length, one-add, refl, subst, suc, sym, take, true, option_and_then, length-drop, ℕ, ◌+◌, ◌-◌, ◌<◌, ◌==◌, ◌||◌, ◌∙◌, ◌∷◌, ◌≡◌, ◌≢◌, ◌≤◌, and_parts, eqb-true, false≢true, nat_tests, drop_all, drop_more, drop-drop, get_or-drop, prefix_len-le-length, IsCharBoundary-after_ascii, is_ascii_digit, list_all, prefix_len, starts_with, IsCharBoundary}
+use Rattle.mv_tokens.proofs.Words.{take_all, is_leaf, Class, Lexeme, Mode, Place, after_comma, after_value, begins_colon, backslash, between, class, fresh, in_string, in_word, lex_byte, operator, other, place_token, quote, space, string_token, token, tokens, lex, punctuate, is_plain, after_backslash, plain, prepend, content, Token, bad, begin_array, begin_object, boolean, end_array, end_object, key, null, number, string, after_exponent, after_fraction, after_minus, after_whole, ends_word, head, is_operator, is_space, literal, number_before, after_number, word, GoesOn, Steps, is_letter, tokens_from, inl, inr, ◌⊎◌, Bool, IsUtf8, List, None, nat_eq, nat_lt, Option, Some, [], ap, arith, cond, drop, false, get_or, length, one-add, refl, subst, suc, sym, take, true, option_and_then, length-drop, ℕ, ◌+◌, ◌-◌, ◌<◌, ◌==◌, ◌||◌, ◌∙◌, ◌∷◌, ◌≡◌, ◌≤◌, and_parts, eqb-true, false≢true, nat_tests, drop_all, drop_more, drop-drop, get_or-drop, prefix_len-le-length, IsCharBoundary-after_ascii, is_ascii_digit, list_all, prefix_len, starts_with, IsCharBoundary}
 
 class_space : (x : ℕ) → is_space x ≡ true → class x ≡ space
 class_space x h = grind (arith, nat_tests)
@@ -321,7 +321,7 @@ literal_taken d name at on t within letter letters is leaf starts ended more =
     let rest : drop (length name) (drop at d) ≡ drop (at + length name) d = drop-drop (length name) at d in
     let found : word (drop at d) ≡ t = is ∙ rw starts (rw (rest, ended)) in
     let passed = sym (lex_is in_word other byte (drop (at + 1) d) (class_letter byte letter)) ∙ ap (lex in_word) (sym (drop_more d at 0 within))
-        ∙ letters_passed (drop at d) name starts letters ∙ ap (lex in_word) rest ∙ word_ended (drop (at + length name) d) ended in
+    ∙ letters_passed (drop at d) name starts letters ∙ ap (lex in_word) rest ∙ word_ended (drop (at + length name) d) ended in
     word_taken d at (at + length name) on byte t within refl (class_letter byte letter) found leaf passed more
 
 heads : (d : List ℕ) (at byte : ℕ) → at < length d → get_or d at 0 ≡ byte → head (drop at d) ≡ byte

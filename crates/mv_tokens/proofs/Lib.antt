@@ -1,3 +1,4 @@
 pub mod Words
 pub mod LexLemmas
+pub mod RunLemmas
 pub mod ReaderLemmas

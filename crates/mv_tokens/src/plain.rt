@@ -2,11 +2,9 @@
 
 ghost use Rattle.std.specs.Prelude.{◌≡◌, ◌+◌, ◌<◌, ◌≤◌, ◌∷◌, ℕ, List, Some, length, drop, get_or, IfSome, false, true, ◌||◌};
 ghost use Rattle.std.specs.Str.{IsCharBoundary};
-ghost use Rattle.std.specs.List.{prefix_len};
 ghost use Rattle.std.specs.Char.{is_ascii_digit};
 ghost use Rattle.json.specs.Word.{ends_word, is_operator, is_space, literal};
 ghost use Rattle.json.specs.Lex.{between, lex, after_value, punctuate, begins_colon};
-ghost use Rattle.json.specs.Run.{is_plain};
 ghost use Rattle.json.specs.Reads.{token_of};
 ghost use Rattle.json.specs.Token.{number};
 ghost use Rattle.serde_json.specs.Data.{unsigned};
@@ -16,6 +14,7 @@ ghost use Rattle.json.specs.Cursor.{is_leaf};
 ghost use Rattle.std.specs.List.{list_all};
 ghost use Rattle.mv_tokens.specs.inside.Plain.{GoesOn, Steps, is_letter};
 
+use crate::run::{digits_end, plain_end};
 use crate::whole::whole_of;
 use json::Token;
 
@@ -115,28 +114,6 @@ fn plain_string<'a>(text: &'a str, at: usize) -> Option<(Token<'a>, usize)>
     Some((Token::String(string), value_end(text, next)?))
 }
 
-/// The place of the first byte that is not plain in a text: a quote, a backslash or a control character; or the end.
-#[inline(always)]
-fn plain_end(bytes: &[u8], from: usize) -> usize
-    requires within { from ≤ length bytes.now }
-    ensures within { result ≤ length bytes.now }
-    ensures value { result ≡ from + prefix_len is_plain (drop from bytes.now) }
-{
-    let mut at = from;
-    while at < bytes.len() && is_plain(bytes[at]) {
-        at += 1;
-    }
-    at
-}
-
-/// Whether a byte stands for itself in a text.
-#[inline(always)]
-fn is_plain(byte: u8) -> bool
-    ensures { result ≡ is_plain byte }
-{
-    byte != b'"' && byte != b'\\' && byte >= 0x20
-}
-
 /// Takes the whole number that is next behind a place and has no sign, where it has 64 bits, and gives where the text goes on.
 #[inline(always)]
 pub(crate) fn plain_whole(text: &str, from: usize) -> Option<(u64, usize)>
@@ -170,20 +147,6 @@ fn plain_digits<'a>(text: &'a str, at: usize) -> Option<(&'a str, usize)>
         return None;
     }
     Some((&text[at..end], value_end(text, end)?))
-}
-
-/// The place behind the digits that begin at a place.
-#[inline(always)]
-fn digits_end(bytes: &[u8], from: usize) -> usize
-    requires within { from ≤ length bytes.now }
-    ensures within { result ≤ length bytes.now }
-    ensures value { result ≡ from + prefix_len is_ascii_digit (drop from bytes.now) }
-{
-    let mut at = from;
-    while at < bytes.len() && bytes[at].is_ascii_digit() {
-        at += 1;
-    }
-    at
 }
 
 /// Takes one of the three words.

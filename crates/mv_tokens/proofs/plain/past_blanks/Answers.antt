@@ -1,4 +1,4 @@
-use Rattle.mv_tokens.proofs.Words.{◌≡◌, ◌<◌, length, get_or, arith, ◌∙◌, sym, true, is_space, rules}
+use Rattle.mv_tokens.proofs.Words.{◌≡◌, ◌<◌, length, get_or, ◌∙◌, true, is_space, rules}
 use Rattle.mv_tokens.proofs.LexLemmas.{blank_passed, blank_is_ascii, behind}
 use Rattle.mv_tokens.proofs.plain.past_blanks.Goals as goal
 

@@ -1,4 +1,4 @@
-use Rattle.mv_tokens.proofs.Words.{◌≡◌, ◌<◌, ◌+◌, ◌≤◌, length, get_or, drop, arith, rules, prefix_len, is_ascii_digit, ends_word, true, ap, ◌∙◌, sym, ◌∷◌, number, tokens_from}
+use Rattle.mv_tokens.proofs.Words.{◌≡◌, ◌+◌, ◌≤◌, get_or, drop, rules, prefix_len, is_ascii_digit, ends_word, true, ap, ◌∙◌, sym, ◌∷◌, number, tokens_from}
 use Rattle.mv_tokens.proofs.LexLemmas.{number_taken}
 use Rattle.mv_tokens.proofs.plain.plain_digits.Goals.{else-bytes-at-eq48-via-then-bytes-at-eq48+else-end-at, else-bytes-at-eq48-via-else-bytes-at-eq48}
 use Rattle.mv_tokens.proofs.plain.plain_digits.Goals as goal

@@ -1,4 +1,4 @@
-use Rattle.mv_tokens.proofs.Words.{◌≡◌, ◌<◌, ◌+◌, length, get_or, drop, arith, rules, prefix_len, is_plain, take, ◌-◌, ap, ◌∙◌, sym, ◌∷◌, key, string, tokens_from}
+use Rattle.mv_tokens.proofs.Words.{◌≡◌, ◌+◌, drop, arith, rules, prefix_len, is_plain, ap, ◌∙◌, sym, ◌∷◌, key, string, tokens_from}
 use Rattle.mv_tokens.proofs.LexLemmas.{behind, key_taken, string_taken}
 use Rattle.mv_tokens.proofs.plain.plain_string.Goals as goal
 

@@ -1,4 +1,4 @@
-use Rattle.mv_tokens.proofs.Words.{◌≡◌, ◌<◌, ◌≤◌, ◌⊎◌, inl, inr, length, get_or, arith, rules}
+use Rattle.mv_tokens.proofs.Words.{◌≡◌, ◌⊎◌, inl, inr, get_or, arith, rules}
 use Rattle.mv_tokens.proofs.LexLemmas.{at_end, at_close, at_comma, behind}
 use Rattle.mv_tokens.proofs.plain.value_end.Goals.{then-bytes-at-eq125-via-then-bytes-at-eq125, then-bytes-at-eq125-via-else-bytes-at-eq125+then-bytes-at-eq93}
 use Rattle.mv_tokens.proofs.plain.value_end.Goals as goal

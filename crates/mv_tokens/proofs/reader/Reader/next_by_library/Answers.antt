@@ -7,5 +7,5 @@ returns-then-rest-self c =
     let a = c.self.inside in
     let unread : a.library ≡ None = search rules in
     let none : left_of a.library a.text.now a.at ≡ [] = ap (λ l. left_of l a.text.now a.at) unread
-        ∙ nothing_left a.text.now a.at c.past_blanks-rest.result c.past_blanks-rest.ensures.lexemes (search rules) in
+    ∙ nothing_left a.text.now a.at c.past_blanks-rest.result c.past_blanks-rest.ensures.lexemes (search rules) in
     (sym c.self.view_is ∙ none, none)

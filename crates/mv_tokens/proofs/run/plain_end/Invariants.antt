@@ -1,5 +1,5 @@
 use Rattle.mv_tokens.proofs.Words.{length, ◌-◌, ◌+◌, ◌≤◌, drop, ◌≡◌, prefix_len, is_plain}
-use Rattle.mv_tokens.proofs.plain.plain_end.Given as goal
+use Rattle.mv_tokens.proofs.run.plain_end.Given as goal
 
 -- only plain bytes were passed
 abbrev pub invariant-loop-at : goal.invariant-loop-at

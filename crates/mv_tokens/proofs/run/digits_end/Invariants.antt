@@ -1,5 +1,5 @@
 use Rattle.mv_tokens.proofs.Words.{length, ◌-◌, ◌+◌, ◌≤◌, drop, ◌≡◌, prefix_len, is_ascii_digit}
-use Rattle.mv_tokens.proofs.plain.digits_end.Given as goal
+use Rattle.mv_tokens.proofs.run.digits_end.Given as goal
 
 -- only digits were passed
 abbrev pub invariant-loop-at : goal.invariant-loop-at

@@ -1,0 +1,81 @@
+//! Finds where a run of bytes ends: a run of plain bytes of a text, or of digits.
+
+ghost use Rattle.std.specs.Prelude.{◌≡◌, ◌+◌, ◌≤◌, length, drop};
+ghost use Rattle.std.specs.List.{prefix_len};
+ghost use Rattle.std.specs.Char.{is_ascii_digit};
+ghost use Rattle.json.specs.Run.{is_plain};
+
+use std::simd::prelude::*;
+
+/// How many bytes are looked at together.
+const LANES: usize = 16;
+
+/// The place of the first byte that is not plain in a text: a quote, a backslash or a control
+/// character; or the end.
+#[inline(always)]
+pub(crate) fn plain_end(bytes: &[u8], from: usize) -> usize
+    requires within { from ≤ length bytes.now }
+    ensures within { result ≤ length bytes.now }
+    ensures value { result ≡ from + prefix_len is_plain (drop from bytes.now) }
+{
+    let mut at = from;
+    while bytes.len() - at >= LANES {
+        let plain = plain_count(u8x16::from_slice(&bytes[at..]));
+        if plain < LANES {
+            return at + plain;
+        }
+        at += LANES;
+    }
+    plain_end_by_byte(bytes, at)
+}
+
+/// How many bytes of sixteen are plain before the first that is not.
+#[inline(always)]
+fn plain_count(lanes: u8x16) -> usize
+    ensures { result ≡ prefix_len is_plain lanes }
+{
+    let stops = lanes.simd_eq(u8x16::splat(b'"'))
+        | lanes.simd_eq(u8x16::splat(b'\\'))
+        | lanes.simd_lt(u8x16::splat(0x20));
+    let places = stops.to_bitmask();
+    if places == 0 {
+        return LANES;
+    }
+    places.trailing_zeros() as usize
+}
+
+/// The same place as that of `plain_end`, found one byte at a time.
+#[inline(always)]
+fn plain_end_by_byte(bytes: &[u8], from: usize) -> usize
+    requires within { from ≤ length bytes.now }
+    ensures within { result ≤ length bytes.now }
+    ensures value { result ≡ from + prefix_len is_plain (drop from bytes.now) }
+{
+    let mut at = from;
+    while at < bytes.len() && is_plain(bytes[at]) {
+        at += 1;
+    }
+    at
+}
+
+/// Whether a byte stands for itself in a text.
+#[inline(always)]
+fn is_plain(byte: u8) -> bool
+    ensures { result ≡ is_plain byte }
+{
+    byte != b'"' && byte != b'\\' && byte >= 0x20
+}
+
+/// The place behind the digits that begin at a place.
+#[inline(always)]
+pub(crate) fn digits_end(bytes: &[u8], from: usize) -> usize
+    requires within { from ≤ length bytes.now }
+    ensures within { result ≤ length bytes.now }
+    ensures value { result ≡ from + prefix_len is_ascii_digit (drop from bytes.now) }
+{
+    let mut at = from;
+    while at < bytes.len() && bytes[at].is_ascii_digit() {
+        at += 1;
+    }
+    at
+}

@@ -66,7 +66,8 @@ pub(crate) fn past_blanks(text: &str, from: usize) -> usize
 fn is_blank(byte: u8) -> bool
     ensures { result ≡ is_space byte }
 {
-    matches!(byte, b' ' | b'\t' | b'\n' | b'\r')
+    // Most bytes that are asked about are none, and above all of them.
+    byte <= b' ' && matches!(byte, b' ' | b'\t' | b'\n' | b'\r')
 }
 
 /// Where the text goes on behind a value, as at its beginning: at the next key or value behind a comma, or at what closes.

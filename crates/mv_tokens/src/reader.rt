@@ -79,10 +79,14 @@ impl<'a> Reader<'a> {
     pub fn is_done(&mut self) -> bool
         ensures { IsTrue result → self.old ≡ [] }
     {
+        if self.at == self.text.len() && self.library.is_none() {
+            return true;
+        }
         self.next().is_none()
     }
 
     /// Takes the next token, and says whether it is the brace that opens an object.
+    #[inline(always)]
     pub fn takes_opening(&mut self) -> bool
         ensures opening { IsTrue result → self.old ≡ begin_object ∷ self.new }
         ensures other { IsFalse result → (rest : List AToken) → self.old ≢ begin_object ∷ rest }

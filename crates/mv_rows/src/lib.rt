@@ -32,4 +32,6 @@ mod session;
 #[cfg(test)]
 mod show;
 #[cfg(test)]
+mod tokens;
+#[cfg(test)]
 mod trail;

@@ -1,4 +1,4 @@
-use Rattle.mv_tokens.proofs.Words.{ap, left_of, None, refl, rules, sym, [], ◌∙◌, ◌≡◌}
+use Rattle.mv_tokens.proofs.Words.{ap, left_of, None, refl, rules, sym, ◌∙◌, ◌≡◌}
 use Rattle.mv_tokens.proofs.ReaderLemmas.{nothing_left}
 use Rattle.mv_tokens.proofs.reader.Reader.is_done.Goals as goal
 

@@ -1,5 +1,5 @@
 -- The laws of the line that asks a request: it is read as that request, and what any line asks is legal.
-use Rattle.mv_format.proofs.Words.{AllByRecursion, Asking, Bool, Data, Err, IfOk, IsMarket, Kind, LineFault, LineField, LineKind, List, Ok, Open, Option, Request, Result, Some, Step, Unknown, [], arith, array, as_list, as_number, as_str, as_u64, asked_at, each_back, each_of, items_of, kind_at, list_all, lt-ltb, map, map_err, market_lists_at, member_at, message_at, nat_tests, number_at, of_32_bits, ok_or, option_and_then, read_at, read_is_legal, read_request, reads_back, refl, request_at, shape_of, string, strings, subst, true, ℕ, ◌<◌, ◌^◌, ◌and_then◌, ◌∷◌, ◌≡◌, Decides-and}
+use Rattle.mv_format.proofs.Words.{AllByRecursion, Asking, Bool, Data, Err, IfOk, IsMarket, Kind, LineFault, LineField, LineKind, List, Ok, Open, Option, Request, Result, Some, Step, Unknown, [], arith, array, as_list, as_str, asked_at, each_back, each_of, items_of, kind_at, list_all, lt-ltb, map, market_lists_at, member_at, message_at, nat_tests, number_at, ok_or, read_at, read_is_legal, read_request, reads_back, refl, request_at, shape_of, string, strings, subst, ℕ, ◌and_then◌, ◌∷◌, ◌≡◌, Decides-and}
 use Rattle.std.specs.Option.{option_map_or}
 use Rattle.std.specs.Bool.{Decides}
 use Rattle.mv_pack.proofs.CallerLemmas.{read_code_is_code, read_code_of, read_gtin_of, read_market_is_market, read_market_of}

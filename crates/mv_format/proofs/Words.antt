@@ -20,6 +20,7 @@ pub use Rattle.mv_json.specs.Members.{keys_of}
 pub use Rattle.mv_json.specs.Reading.{as_list, each_of, map_err, ◌and_then◌}
 pub use Rattle.serde_json.specs.Data.{Data, Items, Members, array, item, no_items, object, string, unsigned}
 pub use Rattle.serde_json.specs.Find.{as_number, as_object, as_str, as_u64, get}
-pub use Rattle.std.proofs.Common.{All, Bool, Contains, Err, IfOk, IsUtf8, List, None, Ok, OnOk, Option, Result, Some, [], ap, append_assoc, arith, cond, drop, flat_map, is_some, length, lt-ltb, map, ok_or, option_and_then, option_map, refl, rules, subst, take, take_all, true, ℕ, ◌++◌, ◌<◌, ◌^◌, ◌∙◌, ◌∷◌, ◌≡◌, ◌≢◌, ◌≤◌}
+pub use Rattle.std.specs.declared.alloc.AllocError.{AllocError}
+pub use Rattle.std.proofs.Common.{All, Bool, Contains, Err, IfOk, IsUtf8, List, None, Ok, OnOk, Option, Result, Some, [], ap, append_assoc, arith, cond, drop, false, flat_map, is_some, length, lt-ltb, map, ok_or, option_and_then, option_map, refl, rules, subst, sym, take, take_all, true, ℕ, ◌++◌, ◌<◌, ◌^◌, ◌∙◌, ◌∷◌, ◌≡◌, ◌≢◌, ◌≤◌}
 pub use Rattle.std.proofs.lemmas.Bool.Decides.{Decides-and, nat_tests}
 pub use Rattle.std.proofs.lemmas.Grind.{common_steps}

@@ -1,8 +1,8 @@
 -- What is written of a reply's object.
-use Rattle.std.specs.Prelude.{◌≡◌, ℕ, List, [], ◌∷◌, ◌++◌, codes, map, IfOk, Option, Some, None, option_map, Result, MatchResult}
+use Rattle.std.specs.Prelude.{◌≡◌, ℕ, List, [], ◌∷◌, ◌++◌, codes, map, Option, Some, None, option_map, Result, MatchResult}
 use Rattle.mv_format.specs.Words.{Data, Member, Members, Token, array, boolean, member, no_members, null, option_map_or, string, value_of, whole}
 use Rattle.json.specs.Tree.{json_tokens}
-use Rattle.json.specs.Written.{Written}
+use Rattle.mv_json.specs.Tokens.{Puts, Written}
 use Rattle.serde_json.specs.Written.{outline, compact_text}
 use Rattle.mv_repository.specs.declared.held.Change.{Change}
 use Rattle.mv_format.specs.Meanings.{markets_value}
@@ -49,9 +49,9 @@ members_of ms = members_where (map entry_of ms)
 unfoldable pub tokens_of : Data → List Token
 tokens_of value = json_tokens (outline value)
 
--- the value came behind what was written
+-- the text of the value came behind what was written
 abbrev pub Adds : {E : Type 0} → Result (Unit {0}) E → Written → Written → Data → Type 0
-Adds result old new value = IfOk result (λ _. new.tokens ≡ old.tokens ++ tokens_of value)
+Adds result old new value = Puts result old new (tokens_of value)
 
 -- the canonical text of the value came behind these bytes, or they are as they were
 abbrev pub Appended : {E : Type 0} → Result (Unit {0}) E → List ℕ → List ℕ → Data → Type 0

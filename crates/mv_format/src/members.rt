@@ -1,13 +1,13 @@
 //! Writes the objects that replies are, member by member.
 
-ghost use Rattle.std.specs.Prelude.{◌≡◌, ◌++◌, IfOk};
+ghost use Rattle.mv_json.specs.Tokens.{Puts};
 ghost use Rattle.mv_format.specs.Words.{object};
 ghost use Rattle.mv_format.specs.Writing.{Adds, Appended, change_value, national_value, members_of};
 ghost use Rattle.mv_format.specs.inside.Writing.{member_tokens};
 
 use crate::to_json::write_list;
 use crate::{ToJson, append_json};
-use json::Writer;
+use mv_json::TextWriter;
 use mv_link::Reached;
 use mv_message::{Markets, Message};
 use mv_pack::National;
@@ -53,7 +53,7 @@ pub(crate) struct Object<'a> {
 impl ToJson for Object<'_> {
     ghost value = { λ o. object (members_of o.members.now) };
 
-    fn write(&self, writer: &mut Writer) -> Result<(), AllocError> {
+    fn write(&self, writer: &mut TextWriter) -> Result<(), AllocError> {
         write_object(writer, self.members)
     }
 }
@@ -71,10 +71,11 @@ pub fn append_object(
 }
 
 /// Writes the object of these members, which come in byte order of their keys.
-#[tactic(auto, using(std::proofs::lemmas::Grind::common_steps, crate::proofs::WritingLemmas::bracketed, crate::proofs::WritingLemmas::object_is))]
-pub(crate) fn write_object(writer: &mut Writer, members: &[Member<'_>]) -> Result<(), AllocError>
-    ensures before { writer.new.before ≡ writer.old.before }
-    ensures added { Adds result writer.old writer.new (object (members_of members.now)) }
+pub(crate) fn write_object(
+    writer: &mut TextWriter,
+    members: &[Member<'_>],
+) -> Result<(), AllocError>
+    ensures { Adds result writer.old writer.new (object (members_of members.now)) }
 {
     writer.begin_object()?;
     for member in members {
@@ -84,11 +85,8 @@ pub(crate) fn write_object(writer: &mut Writer, members: &[Member<'_>]) -> Resul
 }
 
 /// Writes a member.
-#[tactic(auto, unfolding(crate::specs::Writing::tokens_of))]
-fn write_member(writer: &mut Writer, member: Member<'_>) -> Result<(), AllocError>
-    ensures before { writer.new.before ≡ writer.old.before }
-    ensures added { IfOk result (λ _.
-        writer.new.tokens ≡ writer.old.tokens ++ member_tokens member.entry) }
+fn write_member(writer: &mut TextWriter, member: Member<'_>) -> Result<(), AllocError>
+    ensures { Puts result writer.old writer.new (member_tokens member.entry) }
 {
     match member {
         Member::NumberOrNone(_, None) | Member::FlagOrNone(_, None) => Ok(()),
@@ -137,9 +135,8 @@ fn write_member(writer: &mut Writer, member: Member<'_>) -> Result<(), AllocErro
 
 /// Writes a national number, if there is one.
 #[tactic(auto, unfolding(crate::specs::Writing::tokens_of))]
-fn write_national(writer: &mut Writer, national: &Option<National>) -> Result<(), AllocError>
-    ensures before { writer.new.before ≡ writer.old.before }
-    ensures added { Adds result writer.old writer.new (national_value national.now) }
+fn write_national(writer: &mut TextWriter, national: &Option<National>) -> Result<(), AllocError>
+    ensures { Adds result writer.old writer.new (national_value national.now) }
 {
     match national {
         Some(national) => writer.string(national.as_str()),
@@ -149,9 +146,12 @@ fn write_national(writer: &mut Writer, national: &Option<National>) -> Result<()
 
 /// Writes what changed a pack, if something did.
 #[tactic(auto, unfolding(crate::specs::Writing::tokens_of))]
-fn write_change(writer: &mut Writer, change: &Option<Change>, user: &str) -> Result<(), AllocError>
-    ensures before { writer.new.before ≡ writer.old.before }
-    ensures added { Adds result writer.old writer.new (change_value change.now user.now) }
+fn write_change(
+    writer: &mut TextWriter,
+    change: &Option<Change>,
+    user: &str,
+) -> Result<(), AllocError>
+    ensures { Adds result writer.old writer.new (change_value change.now user.now) }
 {
     let Some(change) = change else {
         return writer.null();

@@ -5,19 +5,20 @@ ghost use Rattle.serde_json.specs.Written.{compact_text};
 ghost use Rattle.mv_format.specs.Objects.{object_of};
 ghost use Rattle.mv_format.specs.Words.{string};
 ghost use Rattle.mv_format.specs.Writing.{Adds, Appended};
-ghost use Rattle.mv_format.specs.ReplyLines.{answer_value, number_where, numbered, place_of, refused, refused_field, refused_pack, message_fault_value, line_fault_value, reply_value};
+ghost use Rattle.mv_format.specs.inside.Writing.{entries_put};
+ghost use Rattle.mv_json.specs.Tokens.{Puts};
+ghost use Rattle.mv_format.specs.ReplyLines.{answer_value, counts_of, number_where, numbered, place_of, refused, refused_field, refused_pack, message_fault_value, line_fault_value, reply_value};
 
 use crate::members::Member::{Flag, Number, NumberOrNone, Parties, Text};
 use crate::members::{Object, write_object};
-use crate::to_json::USUAL_LEN;
 use crate::{Answered, LineFault, ToJson};
-use json::Writer;
-use mv_json::MessageFault;
 use mv_json::members::Named;
+use mv_json::{MessageFault, TextWriter};
 use mv_machine::{Refusal, Reply};
 use mv_pack::PackFault;
 use mv_repository::{Effect, Joint, Verdict};
 use std::alloc::{AllocError, Global};
+use std::mem;
 
 /// The text of the reply to a step.
 pub fn reply_text(alloc: Global, reply: &Reply) -> Result<String, AllocError>
@@ -42,13 +43,12 @@ pub fn refusal_text(alloc: Global, code: &'static str) -> Result<String, AllocEr
 }
 
 /// The text of a reply line.
-#[tactic(auto, using(crate::proofs::WritingLemmas::text_written))]
 fn line_text<T: ToJson>(alloc: Global, reply: &T) -> Result<String, AllocError>
     ensures { IfOk result (λ text. string_bytes text ≡ compact_text (T.value reply.now)) }
 {
-    let mut writer = Writer::new(Vec::new(alloc));
+    let mut writer = TextWriter::new(Vec::new(alloc));
     reply.write(&mut writer)?;
-    let Ok(text) = String::from_utf8(writer.into_inner()) else {
+    let Ok(text) = String::from_utf8(writer.into_buffer(true)) else {
         unreachable!();
     };
     Ok(text)
@@ -58,7 +58,7 @@ fn line_text<T: ToJson>(alloc: Global, reply: &T) -> Result<String, AllocError>
 impl ToJson for Answered {
     ghost value = { answer_value };
 
-    fn write(&self, writer: &mut Writer) -> Result<(), AllocError> {
+    fn write(&self, writer: &mut TextWriter) -> Result<(), AllocError> {
         match self {
             Answered::Unread(fault) => fault.write(writer),
             Answered::NotTaken(fault) => write_refused(writer, fault.code(), None),
@@ -72,7 +72,7 @@ impl ToJson for Answered {
 impl ToJson for Reply {
     ghost value = { reply_value };
 
-    fn write(&self, writer: &mut Writer) -> Result<(), AllocError> {
+    fn write(&self, writer: &mut TextWriter) -> Result<(), AllocError> {
         match self {
             Reply::Submitted { k } => write_numbered(writer, "submitted", *k),
             Reply::Routed { k, reach } => write_object(
@@ -112,7 +112,7 @@ impl ToJson for Reply {
 impl ToJson for LineFault {
     ghost value = { line_fault_value };
 
-    fn write(&self, writer: &mut Writer) -> Result<(), AllocError> {
+    fn write(&self, writer: &mut TextWriter) -> Result<(), AllocError> {
         match self {
             LineFault::NotJson => write_refused(writer, "M1", None),
             LineFault::NotObject => write_refused(writer, "M2", None),
@@ -128,7 +128,6 @@ impl ToJson for LineFault {
 
 /// Writes the refusal of a message behind what the buffer holds, with the number of its line, where one is given. Where memory is
 /// refused the buffer is as it was.
-#[tactic(auto, using(crate::proofs::WritingLemmas::text_written))]
 pub fn append_refusal(
     alloc: Global,
     out: &mut Vec<u8>,
@@ -137,29 +136,28 @@ pub fn append_refusal(
 ) -> Result<(), AllocError>
     ensures { Appended result out.old.items out.new.items (message_fault_value line fault.now) }
 {
-    // A writer makes room ahead of what it holds, so it begins with nothing.
-    let mut writer = Writer::new(Vec::with_capacity(alloc, USUAL_LEN)?);
-    write_message_fault(&mut writer, fault, line)?;
-    out.extend_from_slice(writer.into_inner().as_slice())
+    let mut writer = TextWriter::new(mem::replace(out, Vec::new(alloc)));
+    let done = write_message_fault(&mut writer, fault, line);
+    *out = writer.into_buffer(done.is_ok());
+    done
 }
 
 /// The refusal of a message.
 impl ToJson for MessageFault {
     ghost value = { message_fault_value None };
 
-    fn write(&self, writer: &mut Writer) -> Result<(), AllocError> {
+    fn write(&self, writer: &mut TextWriter) -> Result<(), AllocError> {
         write_message_fault(writer, self, None)
     }
 }
 
 /// Writes the refusal of a message, with the number of its line, where one is given.
 fn write_message_fault(
-    writer: &mut Writer,
+    writer: &mut TextWriter,
     fault: &MessageFault,
     line: Option<u32>,
 ) -> Result<(), AllocError>
-    ensures before { writer.new.before ≡ writer.old.before }
-    ensures added { Adds result writer.old writer.new (message_fault_value line fault.now) }
+    ensures { Adds result writer.old writer.new (message_fault_value line fault.now) }
 {
     let code = fault.code();
     match fault {
@@ -176,42 +174,66 @@ fn write_message_fault(
 }
 
 /// Writes an object with one whole number.
-fn write_numbered(writer: &mut Writer, key: &'static str, number: u32) -> Result<(), AllocError>
-    ensures before { writer.new.before ≡ writer.old.before }
-    ensures added { Adds result writer.old writer.new (numbered key.now number) }
+fn write_numbered(writer: &mut TextWriter, key: &'static str, number: u32) -> Result<(), AllocError>
+    ensures { Adds result writer.old writer.new (numbered key.now number) }
 {
-    write_object(writer, &[Number(key, number as u64)])
+    writer.begin_object()?;
+    writer.key(key)?;
+    writer.u64(u64::from(number))?;
+    writer.end_object()
 }
 
 /// Writes the reply that a frame was applied, and the number of the answer that it called for.
 fn write_applied(
-    writer: &mut Writer,
+    writer: &mut TextWriter,
     number: u32,
     effect: Effect,
     answer: Option<u32>,
 ) -> Result<(), AllocError>
-    ensures before { writer.new.before ≡ writer.old.before }
-    ensures added { Adds result writer.old writer.new
+    ensures { Adds result writer.old writer.new
         (reply_value (Reply.Applied number effect answer)) }
 {
-    let (new, old) = match effect {
-        Effect::Uploaded { new, old } => (Some(new), Some(old)),
-        _ => (None, None),
+    writer.begin_object()?;
+    write_where(writer, "answer", answer)?;
+    writer.key("applied")?;
+    writer.u64(u64::from(number))?;
+    writer.key("effect")?;
+    writer.string(effect.code())?;
+    write_counts(writer, effect)?;
+    writer.end_object()
+}
+
+/// Writes a member with a whole number, where there is one.
+fn write_where(
+    writer: &mut TextWriter,
+    key: &'static str,
+    number: Option<u32>,
+) -> Result<(), AllocError>
+    ensures { Puts result writer.old writer.new (entries_put (number_where key.now number)) }
+{
+    let Some(number) = number else {
+        return Ok(());
     };
-    let members = [
-        NumberOrNone("answer", answer.map(u64::from)),
-        Number("applied", number as u64),
-        Text("effect", effect.code()),
-        NumberOrNone("new", new),
-        NumberOrNone("old", old),
-    ];
-    write_object(writer, &members)
+    writer.key(key)?;
+    writer.u64(u64::from(number))
+}
+
+/// Writes how many packs of an upload were new, and how many were there.
+fn write_counts(writer: &mut TextWriter, effect: Effect) -> Result<(), AllocError>
+    ensures { Puts result writer.old writer.new (entries_put (counts_of effect)) }
+{
+    let Effect::Uploaded { new, old } = effect else {
+        return Ok(());
+    };
+    writer.key("new")?;
+    writer.u64(new)?;
+    writer.key("old")?;
+    writer.u64(old)
 }
 
 /// Writes a verdict on a pack: of all parties that were asked, or of the one repository that holds it.
-fn write_verdict(writer: &mut Writer, verdict: Joint) -> Result<(), AllocError>
-    ensures before { writer.new.before ≡ writer.old.before }
-    ensures added { Adds result writer.old writer.new (reply_value (Reply.Joint verdict)) }
+fn write_verdict(writer: &mut TextWriter, verdict: Joint) -> Result<(), AllocError>
+    ensures { Adds result writer.old writer.new (reply_value (Reply.Joint verdict)) }
 {
     match verdict {
         Joint::NotAsked => write_object(writer, &[Text("verdict", "not asked")]),
@@ -233,9 +255,8 @@ fn write_verdict(writer: &mut Writer, verdict: Joint) -> Result<(), AllocError>
 }
 
 /// Writes a refusal by its number, with the number of a line, where one is given.
-fn write_refused(writer: &mut Writer, code: &str, line: Option<u32>) -> Result<(), AllocError>
-    ensures before { writer.new.before ≡ writer.old.before }
-    ensures added { Adds result writer.old writer.new
+fn write_refused(writer: &mut TextWriter, code: &str, line: Option<u32>) -> Result<(), AllocError>
+    ensures { Adds result writer.old writer.new
         (object_of (number_where (codes "line") line ++ (codes "refused", string code.now) ∷ [])) }
 {
     let line = NumberOrNone("line", line.map(u64::from));
@@ -244,13 +265,12 @@ fn write_refused(writer: &mut Writer, code: &str, line: Option<u32>) -> Result<(
 
 /// Writes a refusal that names a field.
 fn write_field<'a>(
-    writer: &mut Writer,
+    writer: &mut TextWriter,
     field: &'a str,
     code: &'a str,
     line: Option<u32>,
 ) -> Result<(), AllocError>
-    ensures before { writer.new.before ≡ writer.old.before }
-    ensures added { Adds result writer.old writer.new (refused_field line field.now code.now) }
+    ensures { Adds result writer.old writer.new (refused_field line field.now code.now) }
 {
     let line = NumberOrNone("line", line.map(u64::from));
     let field = Text("field", field);
@@ -259,13 +279,12 @@ fn write_field<'a>(
 
 /// Writes the refusal of a text that is no value (M6). That of P6 has the place of the character.
 fn write_pack(
-    writer: &mut Writer,
+    writer: &mut TextWriter,
     field: &str,
     fault: PackFault,
     line: Option<u32>,
 ) -> Result<(), AllocError>
-    ensures before { writer.new.before ≡ writer.old.before }
-    ensures added { Adds result writer.old writer.new (refused_pack line fault field.now) }
+    ensures { Adds result writer.old writer.new (refused_pack line fault field.now) }
 {
     let members = [
         Text("fault", fault.code()),

@@ -2,6 +2,7 @@ pub mod Words
 pub mod MembersLemmas
 pub mod ValueLemmas
 pub mod TokenLemmas
+pub mod WriterLemmas
 pub mod ReadingLemmas
 pub mod ReadsLemmas
 pub mod OrderLemmas

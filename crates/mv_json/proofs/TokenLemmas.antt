@@ -1,15 +1,20 @@
 -- Tokens that are put one after another.
-use Rattle.mv_json.proofs.Words.{◌≡◌, ◌≤◌, ℕ, List, [], ◌∷◌, ◌++◌, length, map, take, refl, subst, ap, ◌∙◌, append_assoc, None, Some, Result, Ok, arith, Data, Field, Puts, PutsValue, Token, Version, array, begin_array, compact_text, end_array, end_object, field_name, items_outline, member, members_of, members_outline, members_put, no_members, option_map_or, print, print-outline, since_two, strings, take_all, tokens_of, version_member, whole}
+use Rattle.mv_json.proofs.Words.{◌≡◌, ◌≤◌, ℕ, List, [], ◌∷◌, ◌++◌, length, map, take, refl, subst, ap, ◌∙◌, append_assoc, append-nil, false, fold, sym, None, Some, Result, Err, Ok, arith, cond, Data, Field, Puts, PutsValue, Token, Version, array, begin_array, compact_text, end_array, end_object, field_name, items_outline, member, members_of, members_outline, members_put, no_members, option_map_or, print-outline, since_two, strings, take_all, tokens_of, version_member, whole}
 use Rattle.std.proofs.lemmas.Result.{on_ok_weaker}
+use Rattle.std.specs.Prelude.{OnErr, OnOk, is_ok}
 use Rattle.json.specs.Tree.{items_tokens, members_tokens}
-use Rattle.json.specs.Written.{Written, Writes}
+use Rattle.std.proofs.lemmas.List.Sums.{fold-append}
+use Rattle.json.proofs.Printed.Tokens.{print_from-append}
+use Rattle.json.specs.Print.{ends, print_from}
+use Rattle.mv_json.specs.Tokens.{Written}
 use Rattle.mv_json.specs.declared.member.Said.{Said}
 use Rattle.json.specs.Token as token
 use Rattle.mv_json.specs.declared.field.Field.TheVariants as fields
 
--- a token that was written
-pub one : {E : Type 0} {result : Result (Unit {0}) E} {old new : Written} {token : Token} → Writes result old new token → Puts result old new (token ∷ [])
-one written = record { before = written.room.0; ok = written.ok }
+-- no token yet
+pub nothing : {E : Type 0} {old : Written} → Puts {E = E} (Ok tt) old old []
+unfolding print_from
+nothing {E} {old} = record { before = refl; text = sym (append-nil old.text); place = refl }
 
 module _ {E F : Type 0} {done : Unit {0}} {result : Result (Unit {0}) E} {old now new : Written} {front more : List Token} where
   infixr 5 ◌then◌
@@ -17,7 +22,12 @@ module _ {E F : Type 0} {done : Unit {0}} {result : Result (Unit {0}) E} {old no
   pub ◌then◌ : Puts {E = F} (Ok done) old now front → Puts result now new more → Puts result old new (front ++ more)
   first then next = record {
     before = next.before ∙ first.before;
-    ok = on_ok_weaker result (λ e. e ∙ ap (λ ts. ts ++ more) first.ok ∙ append_assoc old.tokens front more) next.ok;
+    text = on_ok_weaker result
+        (λ e. e ∙ (λ i. first.text i ++ print_from (first.place i) more) ∙ append_assoc old.text _ _
+        ∙ ap (λ text. old.text ++ text) (sym (print_from-append old.after_value front more))) next.text;
+    place = on_ok_weaker result
+        (λ e. e ∙ ap (λ after. fold (λ _ token. ends token) after more) first.place
+        ∙ sym (fold-append (λ _ token. ends token) old.after_value front more)) next.place;
   }
 
 -- the same tokens, named otherwise
@@ -48,5 +58,13 @@ pub version_is : (version : Version) → members_put (version_member version) ++
 version_is version = grind arith
 
 -- the text of a value's tokens, put behind none, is its compact text
-pub printed : (value : Data) (start tokens : List Token) → start ≡ [] → tokens ≡ start ++ tokens_of value → print tokens ≡ compact_text value
-printed value start tokens none put = ap print (put ∙ ap (λ ts. ts ++ tokens_of value) none) ∙ print-outline value
+pub printed : {E : Type 0} {result : Result (Unit {0}) E} {start done : Written} (value : Data) → start.text ≡ [] → start.after_value ≡ false
+    → Puts result start done (tokens_of value) → OnOk result (done.text ≡ compact_text value)
+printed {E} {result} {start} value none begun puts = on_ok_weaker result (λ e. e ∙ (λ i. none i ++ print_from (begun i) (tokens_of value)) ∙ print-outline value) puts.text
+
+-- a buffer behind which a value was written, or not
+pub written_behind : {E : Type 0} (result : Result (Unit {0}) E) (value : Data) (old new : List ℕ) (start done : Written)
+    → start.before ≡ old → start.text ≡ [] → start.after_value ≡ false → Puts result start done (tokens_of value)
+    → new ≡ done.before ++ cond (is_ok result) done.text [] → OnOk result (new ≡ old ++ compact_text value) × OnErr result (new ≡ old)
+written_behind (Ok tt) value old new start done before none begun puts is = (is ∙ (λ i. (puts.before ∙ before) i ++ printed value none begun puts i), tt)
+written_behind (Err error) value old new start done before none begun puts is = (tt, is ∙ append-nil done.before ∙ puts.before ∙ before)

@@ -3,7 +3,6 @@ pub use Rattle.json.proofs.Grammar.{closed_array, left, members_end, members_mor
 pub use Rattle.json.specs.Json.{members, value}
 unfoldable pub use Rattle.json.specs.Json.{items}
 pub use Rattle.json.specs.Lex.{tokens}
-pub use Rattle.json.specs.Print.{print}
 pub use Rattle.json.specs.Token.{Token, begin_array, begin_object, end_array, end_object, key}
 pub use Rattle.mv_json.specs.Fields.{field_name, names_in}
 pub use Rattle.mv_json.specs.Limits.{most_markets, most_serials, most_text_bytes}
@@ -38,7 +37,7 @@ pub use Rattle.serde_json.specs.Find.{as_bool, as_null, as_str, get, get_member}
 pub use Rattle.serde_json.specs.Read.{converted, max_depth, number_of, of_items, of_json, of_members, read}
 pub use Rattle.serde_json.specs.Written.{compact_text, items_outline, members_outline, outline}
 pub use Rattle.serde_json.specs.declared.value.Value.{Value}
-pub use Rattle.std.proofs.Common.{All, Bool, Contains, Err, IfSome, IsUtf8, List, None, Ok, Option, Result, Some, String, [], ap, append-nil, append_assoc, arith, bytes_eq, cond, drop, false, find, is_some, length, map, max, not, option_map, refl, rules, set, string_bytes, subst, suc, sym, take, true, vec_capacity, vec_len, ℕ, ◌&&◌, ◌*◌, ◌++◌, ◌+◌, ◌-◌, ◌<◌, ◌^◌, ◌∙◌, ◌∷◌, ◌≡◌, ◌≢◌, ◌≤◌}
+pub use Rattle.std.proofs.Common.{All, Bool, Contains, Err, IfSome, IsUtf8, List, None, Ok, Option, Result, Some, String, [], ap, append-nil, append_assoc, arith, bytes_eq, cond, drop, false, find, fold, is_some, length, map, max, not, option_map, refl, rules, set, string_bytes, subst, suc, sym, take, true, vec_capacity, vec_len, ℕ, ◌&&◌, ◌*◌, ◌++◌, ◌+◌, ◌-◌, ◌<◌, ◌^◌, ◌∙◌, ◌∷◌, ◌≡◌, ◌≢◌, ◌≤◌}
 pub use Rattle.std.proofs.lemmas.List.{get_or-map, length-map, map-append, take_all}
 pub use Rattle.std.proofs.lemmas.List.Elements.{All-contains, All-map, All-push, All-set, Contains-append_left, Contains-push}
 pub use Rattle.std.proofs.lemmas.Str.{IsUtf8-string_bytes}

@@ -1,6 +1,5 @@
 -- The names of the library, and of the crates below that the definitions cite, passed on from one place. Declares nothing.
 pub use Rattle.json.specs.Token.{Token, key}
-pub use Rattle.json.specs.Written.{Written}
 pub use Rattle.mv_json.specs.declared.fault.MessageFault.{MessageFault}
 pub use Rattle.mv_json.specs.declared.fault.MessageFault.TheVariants.{Count, Kind, Memory, Missing, NotJson, NotObject, Pack, TextLength, Unknown}
 pub use Rattle.mv_json.specs.declared.field.Field.{Field}

@@ -28,8 +28,10 @@ mod message_reading;
 mod object;
 mod part;
 mod part_reading;
+mod plain;
 mod readers;
 mod reading;
+mod text_writer;
 mod writing;
 
 pub use fault::MessageFault;
@@ -37,4 +39,5 @@ pub use field::Field;
 pub use lists::{MOST_MARKETS, MOST_SERIALS};
 pub use message_reading::{from_value, read, read_in, take_message};
 pub use reading::MOST_TEXT_BYTES;
+pub use text_writer::TextWriter;
 pub use writing::{text, to_value, write_message, write_text};

@@ -6,9 +6,8 @@ ghost use Rattle.mv_json.specs.Tokens.{Puts, tokens_of};
 ghost use Rattle.mv_json.specs.inside.Tokens.{said_value, members_of, members_put, PutsValue};
 ghost use Rattle.mv_json.specs.Values.{strings};
 
-use crate::Field;
 use crate::lists::Listed;
-use json::Writer;
+use crate::{Field, TextWriter};
 use mv_pack::{Expiry, Market, National, Serial};
 use std::alloc::AllocError;
 
@@ -34,9 +33,9 @@ pub(crate) enum Said<'a> {
 }
 
 /// Writes the object of these members, which stand in byte order of their names.
-#[tactic(auto, using(crate::proofs::TokenLemmas::members_are, std::proofs::lemmas::Grind::common_steps), unfolding(crate::specs::inside::Tokens::PutsValue))]
+#[tactic(auto, unfolding(crate::specs::inside::Tokens::PutsValue))]
 pub(crate) fn put_object(
-    writer: &mut Writer,
+    writer: &mut TextWriter,
     members: &[(Field, Said<'_>)],
 ) -> Result<(), AllocError>
     ensures { PutsValue result writer.old writer.new (object (members_of members.now)) }
@@ -49,7 +48,7 @@ pub(crate) fn put_object(
 /// Writes these members of an object that was begun.
 #[tactic(auto, unfolding(crate::specs::inside::Tokens::PutsValue))]
 pub(crate) fn put_members(
-    writer: &mut Writer,
+    writer: &mut TextWriter,
     members: &[(Field, Said<'_>)],
 ) -> Result<(), AllocError>
     ensures { Puts result writer.old writer.new (members_put members.now) }
@@ -63,7 +62,7 @@ pub(crate) fn put_members(
 
 /// Writes what stands under a name.
 #[tactic(auto, unfolding(crate::specs::inside::Tokens::PutsValue))]
-pub(crate) fn put_said(writer: &mut Writer, said: Said<'_>) -> Result<(), AllocError>
+pub(crate) fn put_said(writer: &mut TextWriter, said: Said<'_>) -> Result<(), AllocError>
     ensures { PutsValue result writer.old writer.new (said_value said.entry) }
 {
     match said {
@@ -80,7 +79,7 @@ pub(crate) fn put_said(writer: &mut Writer, said: Said<'_>) -> Result<(), AllocE
 }
 
 /// Writes a list of texts.
-fn put_list<T: Listed>(writer: &mut Writer, list: &[T]) -> Result<(), AllocError>
+fn put_list<T: Listed>(writer: &mut TextWriter, list: &[T]) -> Result<(), AllocError>
     ensures { Puts result writer.old writer.new (tokens_of (array (strings (map T.written list.now)))) }
 {
     writer.begin_array()?;

@@ -6,16 +6,15 @@ ghost use Rattle.mv_json.specs.Messages.{value_of};
 ghost use Rattle.mv_json.specs.Tokens.{Puts};
 ghost use Rattle.mv_json.specs.inside.Tokens.{PutsValue, members_put, version_member};
 
-use crate::Field;
 use crate::form::Version;
 use crate::member::{Said, put_members, put_object, put_said};
-use json::Writer;
+use crate::{Field, TextWriter};
 use mv_message::{Found, Message, Party};
 use mv_pack::PackKey;
 use std::alloc::AllocError;
 
 /// Writes a message.
-pub(crate) fn put_message(writer: &mut Writer, message: &Message) -> Result<(), AllocError>
+pub(crate) fn put_message(writer: &mut TextWriter, message: &Message) -> Result<(), AllocError>
     ensures { PutsValue result writer.old writer.new (value_of message.now) }
 {
     match message {
@@ -136,7 +135,7 @@ pub(crate) fn put_message(writer: &mut Writer, message: &Message) -> Result<(), 
 /// Writes an answer: of the version that says all of what was found.
 #[tactic(auto, unfolding(crate::specs::inside::Tokens::PutsValue))]
 fn put_answer(
-    writer: &mut Writer,
+    writer: &mut TextWriter,
     asker: Party,
     q: u32,
     key: &PackKey,
@@ -162,7 +161,7 @@ fn put_answer(
 }
 
 /// Writes the member that says the version, which the first does not have.
-fn put_version(writer: &mut Writer, version: Version) -> Result<(), AllocError>
+fn put_version(writer: &mut TextWriter, version: Version) -> Result<(), AllocError>
     ensures { Puts result writer.old writer.new (members_put (version_member version)) }
 {
     match version {
@@ -172,7 +171,7 @@ fn put_version(writer: &mut Writer, version: Version) -> Result<(), AllocError>
 }
 
 /// Writes what was found in a version.
-fn put_found(writer: &mut Writer, version: Version, found: &Found) -> Result<(), AllocError>
+fn put_found(writer: &mut TextWriter, version: Version, found: &Found) -> Result<(), AllocError>
     ensures { PutsValue result writer.old writer.new (found_value version found.now) }
 {
     let Found::Present {

@@ -7,15 +7,12 @@ ghost use Rattle.mv_json.specs.Shapes.{IsLegal};
 ghost use Rattle.mv_json.specs.inside.Shapes.{HasWords};
 ghost use Rattle.mv_json.specs.Tokens.{Puts, tokens_of};
 
-use crate::MessageFault;
 use crate::message_members::put_message;
-use json::Writer;
+use crate::{MessageFault, TextWriter};
 use mv_message::Message;
 use serde_json::Value;
 use std::alloc::{AllocError, Global};
-
-/// How many bytes most messages take; a longer one makes its buffer grow.
-const USUAL_LEN: usize = 512;
+use std::mem;
 
 /// Appends the canonical text of a message to a buffer: its value with no blanks, the keys in byte order. The only
 /// refusal is want of memory; then the buffer holds what it held.
@@ -25,16 +22,16 @@ pub fn write_text(alloc: Global, message: &Message, out: &mut Vec<u8>) -> Result
     ensures utf8 { OnOk result (IsUtf8 (compact_text (value_of message.now))) }
     ensures err { OnErr result (out.new.items ≡ out.old.items) }
 {
-    // A writer makes room ahead of what it holds, so it begins with nothing.
-    let mut writer = Writer::new(Vec::with_capacity(alloc, USUAL_LEN)?);
-    put_message(&mut writer, message)?;
-    out.extend_from_slice(writer.into_inner().as_slice())
+    let mut writer = TextWriter::new(mem::replace(out, Vec::new(alloc)));
+    let done = put_message(&mut writer, message);
+    *out = writer.into_buffer(done.is_ok());
+    done
 }
 
 /// Writes the value of a message, with its keys in byte order, as a value of what a writer has begun. The only refusal is want of
 /// memory.
 #[tactic(auto, unfolding(crate::specs::inside::Tokens::PutsValue))]
-pub fn write_message(writer: &mut Writer, message: &Message) -> Result<(), AllocError>
+pub fn write_message(writer: &mut TextWriter, message: &Message) -> Result<(), AllocError>
     ensures { Puts result writer.old writer.new (tokens_of (value_of message.now)) }
 {
     put_message(writer, message)

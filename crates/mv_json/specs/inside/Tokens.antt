@@ -1,12 +1,12 @@
 -- What is written: the members of objects, and the tokens of JSON that a text is written by.
-use Rattle.mv_json.specs.Words.{Data, Field, Members, Token, Version, Written, array, boolean, expiry_text, key, member, no_members, null, option_map_or, string}
+use Rattle.mv_json.specs.Words.{Data, Field, Members, Token, Version, array, boolean, expiry_text, key, member, no_members, null, option_map_or, string}
 use Rattle.mv_json.specs.Fields.{field_name}
 use Rattle.mv_json.specs.Values.{since_two, strings, whole}
 use Rattle.mv_json.specs.declared.member.Said.{Said}
 use Rattle.std.specs.Prelude.{List, [], ◌∷◌, flat_map, Result}
 use Rattle.mv_json.specs.declared.field.Field.TheVariants as fields
 use Rattle.mv_json.specs.declared.member.Said.TheVariants as says
-use Rattle.mv_json.specs.Tokens.{Puts, tokens_of}
+use Rattle.mv_json.specs.Tokens.{Puts, Written, tokens_of}
 
 -- The same of the tokens of a value.
 unfoldable pub PutsValue : {E : Type 0} → Result (Unit {0}) E → Written → Written → Data → Type 0

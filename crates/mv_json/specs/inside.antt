@@ -2,3 +2,4 @@
 pub mod Parts
 pub mod Shapes
 pub mod Tokens
+pub mod Writing

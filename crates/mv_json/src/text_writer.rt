@@ -27,7 +27,8 @@ pub struct TextWriter {
 
 impl Model for TextWriter {
     ghost use Rattle.std.specs.Prelude.{◌≤◌, IsUtf8, drop, length, take};
-    ghost use Rattle.mv_json.specs.Tokens.{Written, written_code};
+    ghost use Rattle.mv_json.specs.Tokens.{Written};
+    ghost use Rattle.mv_json.specs.inside.Writing.{written_code};
 
     ghost Value = { Written };
 

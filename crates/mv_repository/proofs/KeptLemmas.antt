@@ -1,10 +1,10 @@
 -- Lemmas on the table of packs.
-use Rattle.mv_repository.proofs.Words.{◌≡◌, ◌&&◌, bytes_eq, ℕ, List, Option, option_and_then, true, same_text, nat_list_eq_equiv, PackKey, BatchKey, is_same_pack, is_same_batch, Life, Placed, made_batch}
+use Rattle.mv_repository.proofs.Words.{◌≡◌, ◌&&◌, bytes_eq, ℕ, List, Option, option_and_then, true, same_text, nat_list_eq_equiv, PackKey, BatchKey, is_same_pack, is_same_batch, Life, made_batch}
 use Rattle.mv_repository.proofs.Words.{arith, nat_tests}
 
 -- the batch of the upload that made a pack
 abbrev pub life_batch : Life → Option (List ℕ)
-life_batch life = option_and_then (λ (placed : Placed). made_batch placed.entry.item) life.birth
+life_batch life = option_and_then made_batch life.birth
 
 -- keys that pass the test are one
 pub same_pack : (a b : PackKey) → is_same_pack a b ≡ true → a ≡ b

@@ -1,6 +1,6 @@
 -- The serial numbers of a product that a log names, after one more entry; and what is kept of all packs, where the shelf of one product is
 -- written.
-use Rattle.mv_repository.proofs.Words.{arith, nat_tests, ◌≡◌, ◌+◌, ◌∷◌, bytes_eq, ℕ, List, [], length, get_or, take, fold, sym, ◌∙◌, ap, subst, true, true≢false, cond, insert_key, Item, Carried, Status, pack_key, PackKey, LogEntry, AreShelfOf, AreSlots, ShelfParts, ShelfTable, Slot, shelf_by, keyed, IsPackOf, IsShelfOf, IsUploadOf, Life, life_of, is_status_of, no_entry, no_shelf, refl, IsDistinct, serials_in, serials_of, ◌||◌, Bool, false, same_text, HashSet, lookup, map, lists, not, has_number, option_map_or, option_map, shelf_of, Some}
+use Rattle.mv_repository.proofs.Words.{arith, nat_tests, ◌≡◌, ◌+◌, ◌∷◌, bytes_eq, ℕ, List, [], length, get_or, take, fold, sym, ◌∙◌, ap, subst, true, true≢false, cond, insert_key, Item, Carried, Status, pack_key, PackKey, LogEntry, AreShelfOf, AreSlots, ShelfParts, ShelfTable, Slot, shelf_by, keyed, IsPackOf, IsShelfOf, IsUploadOf, Life, life_of, is_status_of, no_entry, no_shelf, refl, IsDistinct, serials_in, serials_of, ◌||◌, Bool, false, same_text, HashSet, lookup, map, lists, not, option_map_or, option_map, shelf_of, Some, list_any, ◌==◌}
 use Rattle.mv_repository.proofs.KeptLemmas.{same_pack}
 use Rattle.mv_repository.proofs.SlotLemmas.{slots-longer}
 use Rattle.mv_repository.proofs.StoppedLemmas.{once-all}
@@ -89,7 +89,7 @@ shelves-follow old new gtin shelf looks whole before shelves now away other = su
 
 -- a number is in the set of a batch
 abbrev pub is_in : {S : Type 0} → List (List ℕ × HashSet ℕ S) → List ℕ → ℕ → Bool
-is_in {S} sets batch number = option_map_or (λ (set : HashSet ℕ S). has_number set.keys number) (lookup (bytes_eq batch) sets) false
+is_in {S} sets batch number = option_map_or (λ (set : HashSet ℕ S). list_any (λ one. one == number) set.keys) (lookup (bytes_eq batch) sets) false
 
 -- sets of numbers by batch, each as a list
 abbrev numbers_in : {S : Type 0} → List (List ℕ × HashSet ℕ S) → List (List ℕ × List ℕ)

@@ -1,7 +1,7 @@
 //! What is kept of each pack of one product, by serial numbers alone. This file knows no other product.
 
 ghost use Rattle.std.specs.Prelude.{◌≡◌, ◌<◌, ◌≤◌, ◌+◌, ◌==◌};
-ghost use Rattle.mv_repository.specs.Clauses.{AreShelfOf, AreSlots, AreStopsOf, IfOk, IsNamed, IsPut, IsRefreshed, IsSpot, IsUploadOf, OnErr, OnOk, Some, Writes, [], bare, bytes_eq, comes_first, newest_effect, entry_at, filter, get_or, is_counted, is_status_of, is_stop, kept_by, kept_in, length, no_shelf, no_slot, nothing_kept, serial_of, serials_uploaded, shelf_by, slice_get, stopped_product, stops_in, take, true, ℕ};
+ghost use Rattle.mv_repository.specs.Clauses.{AreShelfOf, AreSlots, AreStopsOf, IfOk, IsNamed, IsPut, IsRefreshed, IsSpot, IsUploadOf, OnErr, OnOk, Some, Writes, [], bytes_eq, comes_first, newest_effect, entry_at, filter, get_or, is_counted, is_status_of, is_stop, kept_by, kept_in, length, no_shelf, no_slot, nothing_kept, serial_of, serials_uploaded, shelf_by, slice_get, stopped_product, stops_in, take, true, ℕ};
 
 use crate::entry::comes_first;
 use crate::listing::Listing;
@@ -107,7 +107,7 @@ impl Shelf {
     /// What is kept of the pack that a slot stands for: the place of its first upload, its statuses, and the entry by which it
     /// stands.
     pub fn kept(&self, slot: Option<Slot>) -> (Option<u32>, &[u32], u32)
-        ensures { record { birth = result.0; statuses = result.1.now; by = result.2; blocks = [] } ≡ bare (kept_by self.now.tracks slot) }
+        ensures { record { birth = result.0; statuses = result.1.now; by = result.2; blocks = [] } ≡ record (kept_by self.now.tracks slot) { blocks = [] } }
     {
         match slot {
             Some(Slot::Made { place, .. }) => (Some(place), &[], place),

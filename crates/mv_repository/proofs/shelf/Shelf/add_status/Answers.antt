@@ -1,5 +1,5 @@
 -- The pack has the status, and no other track is touched.
-use Rattle.mv_repository.proofs.Lemmas.{◌≡◌, ◌++◌, ◌∷◌, AreSlots, IfSome, IsChanged, IsKept, IsShelfOf, IsSpot, IsWritten, Kept, List, LogEntry, Option, Own, ShelfParts, ShelfTable, Slot, SlotTable, Some, Writes, [], ap, arith, batch-kept, batch-noted, batch_at, bytes_eq, found-own, get_or, get_or_append_left, get_or_push, is-changed, is_listed, keyed, kept_by, kept_in, length, life_batch, life_of, lists, lookup, map_err, nothing_kept, on_map, option_and_then, own-changed, own-kept, own-set, own-there, own-within, refl, shelf-same, shelf-seen, status-others, subst, sym, take, true, written-own, ℕ, ◌∙◌}
+use Rattle.mv_repository.proofs.Lemmas.{◌≡◌, ◌++◌, ◌∷◌, AreSlots, IfSome, IsChanged, IsKept, IsShelfOf, IsSpot, IsWritten, Kept, List, LogEntry, Option, Own, ShelfParts, ShelfTable, Slot, SlotTable, Some, Writes, [], ap, arith, batch-kept, batch-noted, bytes_eq, found-own, get_or, get_or_append_left, get_or_push, is-changed, is_listed, keyed, kept_by, kept_in, length, life_batch, life_of, lists, lookup, map_err, nothing_kept, on_map, option_and_then, own-changed, own-kept, own-set, own-there, own-within, refl, shelf-same, shelf-seen, status-others, subst, sym, take, true, written-own, ℕ, ◌∙◌, entry_at, made_batch}
 use Rattle.mv_repository.proofs.Words.{length-set, set, set-get_or}
 use Rattle.mv_repository.proofs.shelf.Shelf.add_status.Goals.{In-Some-Own}
 use Rattle.mv_repository.proofs.shelf.Shelf.add_status.Goals as goal
@@ -105,7 +105,7 @@ module _ (c : goal.After-put) where
       subst (λ (slot : Option Slot). IfSome (life_batch (life_of c.args.pack.now log)) (λ batch. is_listed new.listing slot batch ≡ true)) (sym own)
       (subst (λ (n : ℕ). IfSome (life_batch (life_of c.args.pack.now log)) (λ batch. lists new.listing batch n ≡ true)) number
       (subst (λ (batch : Option (List ℕ)). IfSome batch (λ one. lists new.listing one c.len-number.result ≡ true))
-      (ap (option_and_then (batch_at log)) (birth_is ∙ ap (λ (k : Kept). k.birth) (are.1.packs serial).kept.bare) ∙ batch-noted log c.args.newest.now.place c.args.pack.now c.args.newest.now.last c.requires.own)
+      (ap (option_and_then (λ place. made_batch (entry_at log place))) (birth_is ∙ ap (λ (k : Kept). k.birth) (are.1.packs serial).kept.bare) ∙ batch-noted log c.args.newest.now.place c.args.pack.now c.args.newest.now.last c.requires.own)
       c.note.ensures.added))
 
   changed : IsChanged serial was new

@@ -1,6 +1,5 @@
 -- Lemmas on the table of packs.
-use Rattle.mv_repository.proofs.Words.{◌≡◌, ◌&&◌, bytes_eq, ℕ, List, Option, option_and_then, true, same_text, nat_list_eq_equiv, PackKey, BatchKey, is_same_pack, is_same_batch, Life, made_batch}
-use Rattle.mv_repository.proofs.Words.{arith, nat_tests}
+use Rattle.mv_repository.proofs.Words.{◌≡◌, ◌&&◌, bytes_eq, ℕ, List, Option, option_and_then, true, same_text, nat_list_eq_equiv, PackKey, BatchKey, is_same_pack, is_same_batch, Life, made_batch, arith, nat_tests}
 
 -- the batch of the upload that made a pack
 abbrev pub life_batch : Life → Option (List ℕ)

@@ -124,6 +124,10 @@ module _ (whole : List LogEntry) (place : ℕ) (l : length whole ≡ place + 1) 
           sym (untouched log entry (pack_key gtin serial) (upload-has entry.item gtin serials upload serial ∙ h) ((upload-form entry.item gtin serials upload).0 (pack_key gtin serial)) (upload-form entry.item gtin serials upload).1)
           ∙ ap (life_of (pack_key gtin serial)) (sym (log-split whole place l))
 
+-- so is that of the first upload of a pack
+pub batch-noted : (whole : List LogEntry) (pack : PackKey) → option_and_then (λ place. made_batch (entry_at whole place)) (kept_of (life_of pack whole)).birth ≡ life_batch (life_of pack whole)
+batch-noted whole pack = batch-there whole (first_upload pack (ordered whole)) (find-stand (λ placed. is_upload_of pack placed.entry.item) whole (ordered whole) (ordered-stand whole))
+
 -- a status leaves the other packs of its product, and the upload of its own
 module _ (whole : List LogEntry) (place : ℕ) (pack : PackKey) (l : length whole ≡ place + 1) (own : is_status_of pack (get_or whole place no_entry).item ≡ true) where
   abbrev before : List LogEntry
@@ -134,9 +138,6 @@ module _ (whole : List LogEntry) (place : ℕ) (pack : PackKey) (l : length whol
 
   pub batch-kept : life_batch (life_of pack whole) ≡ life_batch (life_of pack before)
   batch-kept = ap (option_and_then made_batch) first-stays
-
-  pub batch-noted : option_and_then (λ place. made_batch (entry_at whole place)) (kept_of (life_of pack before)).birth ≡ life_batch (life_of pack whole)
-  batch-noted = grind (arith, nat_tests, first-stays, batch-there whole (first_upload pack (ordered whole)) (find-stand (λ placed. is_upload_of pack placed.entry.item) whole (ordered whole) (ordered-stand whole)))
 
   pub status-others : (old new : ShelfTable) → IsShelfOf before pack.gtin old → IsChanged pack.serial old new → IsPackOf (life_of pack whole) new pack.serial → IsShelfOf whole pack.gtin new
   status-others old new are changed now = record {

@@ -60,8 +60,7 @@ impl Drop for Repository {
 }
 
 impl Model for Repository {
-    ghost use Rattle.mv_repository.specs.Repository.{RepositoryState};
-    ghost use Rattle.mv_repository.specs.inside.Tables.{AreTablesOf, IsInquiriesOf};
+    ghost use Rattle.mv_repository.specs.Clauses.{AreTablesOf, IsInquiriesOf, RepositoryState};
 
     ghost Value = { RepositoryState };
 

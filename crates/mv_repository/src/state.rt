@@ -35,29 +35,22 @@ fn revert_effect(
     expiry: Expiry,
     batch: BatchStanding,
     sender: Party,
-    user: &str,
-    at: Moment,
+    reverter: &str,
+    moment: Moment,
 ) -> Effect
-    ensures { result ≡ revert_effect expiry batch (change_in (entry_at log.now by)) sender user.now at }
+    ensures { result ≡ revert_effect expiry batch (change_in (entry_at log.now by)) sender reverter.now moment }
 {
-    let Some(
-        Message::Status {
-            user: changer,
-            at: changed,
-            ..
-        },
-    ) = message_at(log, by as usize)
-    else {
+    let Some(Message::Status { user, at, .. }) = message_at(log, by as usize) else {
         return Effect::OtherUser;
     };
-    let changed_at = changed.seconds();
-    if sender_at(log, by as usize) != sender || changer.as_str() != user {
+    let changed_at = at.seconds();
+    if sender_at(log, by as usize) != sender || user.as_str() != reverter {
         Effect::OtherUser
-    } else if at.seconds() < changed_at {
+    } else if moment.seconds() < changed_at {
         Effect::TooEarly
-    } else if changed_at + REVERT_SECONDS < at.seconds() {
+    } else if changed_at + REVERT_SECONDS < moment.seconds() {
         Effect::TooLate
-    } else if expiry.expired_at(at) {
+    } else if expiry.expired_at(moment) {
         Effect::Expired
     } else if batch.recalled {
         Effect::Recalled

@@ -1,6 +1,5 @@
 -- The pack has a slot, and the other packs keep theirs.
-use Rattle.mv_repository.proofs.Lemmas.{◌≡◌, AreSlots, IfSome, IsAgain, IsPut, IsWritten, Kept, List, LogEntry, Made, Option, Own, ShelfParts, ShelfTable, Slot, SlotTable, Some, [], ap, arith, bytes_eq, comes_first, entry_at, false, found-own, get_or_from_slice_get, is-changed, is_listed, keyed, kept_by, kept_in, lookup, none-changed, own-changed, own-kept, own-set, own-within, refl, serials_uploaded, shelf_by, slice_get_within, stops_in, subst, sym, true, ◌∙◌, made_batch}
-use Rattle.mv_repository.proofs.Words.{set, true≢false}
+use Rattle.mv_repository.proofs.Lemmas.{◌≡◌, AreSlots, IfSome, IsAgain, IsPut, IsWritten, Kept, List, LogEntry, Made, Option, Own, ShelfParts, ShelfTable, Slot, SlotTable, Some, [], ap, arith, bytes_eq, comes_first, entry_at, false, found-own, get_or_from_slice_get, is-changed, is_listed, keyed, kept_by, kept_in, lookup, none-changed, own-changed, own-kept, own-set, own-within, refl, serials_uploaded, shelf_by, slice_get_within, stops_in, subst, sym, true, ◌∙◌, made_batch, set, true≢false}
 use Rattle.mv_repository.proofs.shelf.Shelf.put_upload.Goals.{After-put, In-Some-Own, in_default-via-in-Some+in_default, in_default-via-in_default}
 use Rattle.mv_repository.proofs.shelf.Shelf.put_upload.Goals as goal
 

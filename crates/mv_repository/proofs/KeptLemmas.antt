@@ -18,6 +18,9 @@ text-sym a b = nat_list_eq_equiv.symm a b
 pub pack-sym : (a b : PackKey) → is_same_pack a b ≡ is_same_pack b a
 pack-sym a b = λ i. text-sym a.gtin b.gtin i && text-sym a.serial b.serial i
 
+pub batch-sym : (a b : BatchKey) → is_same_batch a b ≡ is_same_batch b a
+batch-sym a b = λ i. text-sym a.gtin b.gtin i && text-sym a.batch b.batch i
+
 pub text-self : (a : List ℕ) → bytes_eq a a ≡ true
 text-self a = nat_list_eq_equiv.refl a
 

@@ -1,7 +1,7 @@
 -- Uploads: which packs a log names, and how many of those that an upload names are new; and the counts of a log that its tables of keys give.
-use Rattle.mv_repository.proofs.Words.{◌≡◌, ◌+◌, ◌<◌, ◌∷◌, ◌++◌, ◌&&◌, ◌||◌, nat_tests, bytes_eq, ℕ, List, [], length, take, get_or, refl, sym, ◌∙◌, ap, arith, subst, append-nil, length-append, Bool, true, false, cond, not, Option, is_some, find, filter, map, or-false, flat_map-append, length-map, take_more, filter-append, list_any-append, is_member-filter, IsEquivalence, same_text, nat_list_eq_equiv, list_any, flat_map, option_map, distinct_count, is_member, Item, Carried, Upload, is_same_pack, pack_key, PackKey, LogEntry, uploaded_in, uploaded_packs, entries_before, Placed, put_in, ordered, has_pack, known_pack, IsUploadOf, is_before, place_of, comes_first, is_upload_of, kept_of, life_of, list_any-IsPermutation, Some, length-keys_of, length-from_keys, is_some-lookup, IsDistinct, last_or, lookup, keys_of, is_same_batch, BatchKey, mastered_in, recalled_in, is_master, is_recall_of, Stops, AreStopsOf}
+use Rattle.mv_repository.proofs.Words.{◌≡◌, ◌+◌, ◌<◌, ◌∷◌, ◌++◌, ◌&&◌, ◌||◌, nat_tests, bytes_eq, ℕ, List, [], length, take, get_or, refl, sym, ◌∙◌, ap, arith, subst, append-nil, length-append, Bool, true, false, cond, not, Option, is_some, find, filter, map, or-false, flat_map-append, length-map, take_more, filter-append, list_any-append, is_member-filter, IsEquivalence, same_text, nat_list_eq_equiv, list_any, flat_map, option_map, distinct_count, is_member, Item, Carried, Upload, is_same_pack, pack_key, PackKey, LogEntry, uploaded_in, uploaded_packs, entries_before, Placed, put_in, ordered, has_pack, known_pack, IsUploadOf, is_before, place_of, comes_first, is_upload_of, kept_of, life_of, list_any-IsPermutation, Some, length-keys_of, length-from_keys, is_some-lookup, IsDistinct, last_or, lookup, keys_of, is_same_batch, BatchKey, mastered_in, recalled_in, is_master, is_recall_of, Stops, AreStopsOf, rules}
 use Rattle.mv_repository.proofs.BeforeLemmas.{find-below, known-before, any-find}
-use Rattle.mv_repository.proofs.KeptLemmas.{text-sym, text-self, same_batch}
+use Rattle.mv_repository.proofs.KeptLemmas.{batch-sym, text-sym}
 use Rattle.mv_repository.proofs.OrderLemmas.{put_in-permutes, find-true, ordered-below, still-stand, by_entries, ordered-push}
 use Rattle.mv_repository.proofs.StateLemmas.{find-stand}
 use Rattle.mv_repository.proofs.TableLemmas.{AreMastersOf, longer, newest, newest-stands, find-some}
@@ -143,11 +143,7 @@ count-products log masters distinct places =
     (λ gtin. grind (arith, any-flat (bytes_eq gtin) mastered_in (is_master gtin) (mastered-is gtin) log, any-ordered (is_master gtin) log, last-found, places gtin, some-map))
 
 batch-equiv : IsEquivalence is_same_batch
-batch-equiv = record {
-  refl = λ x i. text-self x.gtin i && text-self x.batch i;
-  symm = λ x y i. text-sym x.gtin y.gtin i && text-sym x.batch y.batch i;
-  congr = λ x y z e. ap (λ (q : BatchKey). is_same_batch q z) (same_batch x y e);
-}
+batch-equiv = search (rules, batch-sym)
 
 pub count-recalled : (log : List LogEntry) (tables : Stops) → IsDistinct is_same_batch (keys_of tables.recalls.entries) → AreStopsOf log tables → length tables.recalls.entries ≡ distinct_count is_same_batch (flat_map (λ entry. recalled_in entry.item) log)
 count-recalled log tables distinct stops =

@@ -1,5 +1,5 @@
 -- The set of the batch has the number, and all that it had.
-use Rattle.mv_repository.proofs.Words.{◌≡◌, ℕ, Bool, List, ListingTable, HashSet, IfSome, Option, Some, arith, bytes_eq, cond, lists, lookup, map, nat_tests, rules, same_text, subst, sym, true, list_any, ◌==◌}
+use Rattle.mv_repository.proofs.Words.{◌≡◌, ℕ, Bool, List, ListingTable, HashSet, IfSome, Option, Some, arith, bytes_eq, cond, lists, lookup, nat_tests, rules, same_text, subst, sym, true, list_any, ◌==◌}
 use Rattle.mv_repository.proofs.SerialLemmas.{is_in, listed_in, numbers_in}
 use Rattle.mv_repository.proofs.listing.Listing.note.Goals as goal
 

@@ -1,5 +1,5 @@
 -- The pack has the status, and no other track is touched.
-use Rattle.mv_repository.proofs.Lemmas.{◌≡◌, ◌++◌, ◌∷◌, AreSlots, IfSome, IsChanged, IsKept, IsShelfOf, IsSpot, IsWritten, Kept, List, LogEntry, Option, Own, ShelfParts, ShelfTable, Slot, SlotTable, Some, Writes, [], ap, arith, batch-kept, batch-noted, bytes_eq, entry_at, made_batch, on_err, shelf_by, found-own, get_or, get_or_append_left, get_or_push, is-changed, is_listed, keyed, kept_by, kept_in, length, life_batch, life_of, lists, lookup, map_err, nothing_kept, on_map, option_and_then, own-changed, own-kept, own-set, own-there, own-within, refl, shelf-same, shelf-seen, status-others, subst, sym, take, true, written-own, ℕ, ◌∙◌, entry_at, made_batch, ListingTable, length-set, set, set-get_or}
+use Rattle.mv_repository.proofs.Lemmas.{◌≡◌, ◌++◌, ◌∷◌, AreSlots, IfSome, IsChanged, IsKept, IsShelfOf, IsWritten, Kept, List, LogEntry, Option, Own, ShelfTable, Slot, SlotTable, Some, Writes, [], ap, arith, batch-kept, batch-noted, bytes_eq, entry_at, made_batch, on_err, shelf_by, found-own, get_or, get_or_append_left, get_or_push, is-changed, is_listed, keyed, kept_by, kept_in, length, life_batch, life_of, lists, lookup, map_err, nothing_kept, on_map, option_and_then, own-changed, own-kept, own-set, own-there, own-within, refl, shelf-same, shelf-seen, status-others, subst, sym, take, true, written-own, ℕ, ◌∙◌, entry_at, made_batch, ListingTable, length-set, set, set-get_or}
 use Rattle.mv_repository.proofs.shelf.Shelf.add_status.Goals.{In-Some-Own}
 use Rattle.mv_repository.proofs.shelf.Shelf.add_status.Goals as goal
 

@@ -1,5 +1,5 @@
 -- What is kept of a pack says what it is, and whether it is active; and how many packs of a table are counted.
-use Rattle.mv_repository.proofs.Words.{count_by-le-length, length-filter, All-contains_itself, recursion_from_All, AllByRecursion, AreSlots, AreTablesOf, keyed, length-append, length-keys_of, shelf_by, subst, ◌+◌, Bool, Counted, IsDistinct, IsDistinct-head, IsDistinct-keys_filter, IsDistinct-tail, IsEquivalence, Kept, List, LogEntry, None, Option, PackKey, ShelfParts, Slot, Some, Tables, [], ap, arith, bytes_eq, cond, distinct_count, distinct_count-le, false, filter, filter-append, flat_map, get_or, is_counted, is_member, is_member-filter, is_same_pack, is_some, is_some-lookup, kept_by, kept_in, keys_of, length, length-from_keys, lookup, lookup-filter-values, map, min, nat_list_eq_equiv, nat_tests, no_shelf, nothing_kept, option_filter, option_map, option_or, pack_key, refl, rules, same_text, serial_of, shelf_of, sym, track_of, true, unwrap_or, uploaded_packs, ℕ, ◌&&◌, ◌++◌, ◌-◌, ◌<◌, ◌^◌, ◌∙◌, ◌∷◌, ◌≡◌, absent_from_lookup, ◌==◌, ◌⊎◌, cond_both, IfSome, fold, inl, inr, option_map_or, Held, Placed, ordered, is_active, is_done, pack_state, held_of, standing_in, known_at, effect_on, next_by, FirstStops, first_stops, place_of, no_entry, is_upload_of, is_status_of, statuses_of, pack_grown, held_at, option_and_then, Active}
+use Rattle.mv_repository.proofs.Words.{count_by-le-length, length-filter, All-contains_itself, recursion_from_All, AllByRecursion, AreSlots, AreTablesOf, keyed, length-append, length-keys_of, shelf_by, subst, ◌+◌, Bool, Counted, IsDistinct, IsDistinct-head, IsDistinct-keys_filter, IsDistinct-tail, IsEquivalence, Kept, List, LogEntry, None, Option, PackKey, ShelfParts, Slot, Some, Tables, [], ap, arith, bytes_eq, cond, distinct_count, distinct_count-le, false, filter, filter-append, flat_map, get_or, is_counted, is_member, is_member-filter, is_same_pack, is_some, is_some-lookup, kept_by, kept_in, keys_of, length, length-from_keys, lookup, lookup-filter-values, map, min, nat_list_eq_equiv, nat_tests, no_shelf, nothing_kept, option_filter, option_map, option_or, pack_key, refl, rules, same_text, serial_of, shelf_of, sym, kept_of, life_of, true, unwrap_or, uploaded_packs, ℕ, ◌&&◌, ◌++◌, ◌-◌, ◌<◌, ◌^◌, ◌∙◌, ◌∷◌, ◌≡◌, absent_from_lookup, ◌==◌, ◌⊎◌, cond_both, IfSome, fold, inl, inr, option_map_or, Held, Placed, ordered, is_active, is_done, pack_state, held_of, known_at, effect_on, next_by, FirstStops, first_stops, place_of, no_entry, is_upload_of, is_status_of, statuses_of, pack_grown, option_and_then, Active, entry_at, message_in, standing_of}
 use Rattle.mv_repository.proofs.KeptLemmas.{same_pack, pack-self, pack-sym}
 use Rattle.mv_repository.proofs.UploadedLemmas.{uploaded-found}
 use Rattle.std.proofs.lemmas.Map.Views.{lookup-from_Contains}
@@ -107,7 +107,7 @@ module _ (log : List LogEntry) where
     -- a pack is counted where a log has it and what it keeps of it is counted
     same-counted : (tables : Tables) (q : PackKey) (o : Option Kept) → AreTablesOf log tables
         → unwrap_or o nothing_kept ≡ kept_in (shelf_by log (shelf_of q.gtin tables.shelves.entries)) q.serial
-        → is_some (option_filter (is_counted counted) o) ≡ (is_member is_same_pack (uploaded_packs log) q && is_counted counted (track_of q log))
+        → is_some (option_filter (is_counted counted) o) ≡ (is_member is_same_pack (uploaded_packs log) q && is_counted counted (kept_of (life_of q log)))
     same-counted tables q o are e =
         let kept = ((are.shelves q.gtin).shelf.packs q.serial).kept.bare in
         grind (arith, nat_tests, kept, uploaded-found log q)
@@ -115,10 +115,10 @@ module _ (log : List LogEntry) where
     -- the packs that are counted shelf by shelf are those that a log has
     all-counted : (tables : Tables) → AreTablesOf log tables → IsDistinct bytes_eq (keys_of tables.shelves.entries)
         → slots_in counted tables.shelves.entries
-        ≡ distinct_count is_same_pack (filter (λ pack. is_counted counted (track_of pack log)) (uploaded_packs log))
+        ≡ distinct_count is_same_pack (filter (λ pack. is_counted counted (kept_of (life_of pack log))) (uploaded_packs log))
     all-counted tables are d =
         let shelves = tables.shelves.entries in
-        let test : PackKey → Bool = λ pack. is_counted counted (track_of pack log) in
+        let test : PackKey → Bool = λ pack. is_counted counted (kept_of (life_of pack log)) in
         let distinct = packs-distinct shelves d (recursion_from_All (λ shelf. AreSlots log shelf.1.table) shelves (λ k s l.
         let own = get_or shelves k s in
         let there = lookup-from_Contains nat_list_eq_equiv own.0 own.1 shelves d (All-contains_itself shelves k s l) in
@@ -135,17 +135,17 @@ module _ (log : List LogEntry) where
     -- and no more than 64 bits hold
     pub counted-whole : (tables : Tables) (count : ℕ) → AreTablesOf log tables → IsDistinct bytes_eq (keys_of tables.shelves.entries)
         → tables.named < 2 ^ 64 → count ≡ min (slots_in counted tables.shelves.entries) (2 ^ 64 - 1)
-        → count ≡ distinct_count is_same_pack (filter (λ pack. is_counted counted (track_of pack log)) (uploaded_packs log))
+        → count ≡ distinct_count is_same_pack (filter (λ pack. is_counted counted (kept_of (life_of pack log))) (uploaded_packs log))
     counted-whole tables count are d fits e =
         grind (arith, nat_tests, all-counted, count_by-le-length, distinct_count-le, length-filter)
 
 -- the packs that are held are those that the log names
 pub held-all : (log : List LogEntry)
-    → distinct_count is_same_pack (filter (λ pack. is_some (track_of pack log).birth) (uploaded_packs log)) ≡ distinct_count is_same_pack (uploaded_packs log)
+    → distinct_count is_same_pack (filter (λ pack. is_some (kept_of (life_of pack log)).birth) (uploaded_packs log)) ≡ distinct_count is_same_pack (uploaded_packs log)
 held-all log = ap (distinct_count is_same_pack) (all-pass (uploaded_packs log) (λ q m. uploaded-found log q ∙ m))
   where
-    all-pass : (xs : List PackKey) → ((q : PackKey) → is_member is_same_pack xs q ≡ true → is_some (track_of q log).birth ≡ true)
-        → filter (λ pack. is_some (track_of pack log).birth) xs ≡ xs
+    all-pass : (xs : List PackKey) → ((q : PackKey) → is_member is_same_pack xs q ≡ true → is_some (kept_of (life_of q log)).birth ≡ true)
+        → filter (λ pack. is_some (kept_of (life_of pack log)).birth) xs ≡ xs
     all-pass [] h = refl
     all-pass (x ∷ xs) h = grind (arith, nat_tests, all-pass xs (λ q m. h q (grind (arith, nat_tests))), pack-self)
 
@@ -155,11 +155,11 @@ is_held_active held = option_map_or (λ (pack : Held). is_active pack.standing) 
 
 -- a pack stands by its upload, or by a status that is no revert
 abbrev Settled : Placed → Placed → Type 0
-Settled birth by = (by ≡ birth) ⊎ (is_active (standing_in by.entry.item) ≡ false)
+Settled birth by = (by ≡ birth) ⊎ (is_active (standing_of (message_in by.entry.item)) ≡ false)
 
 fold-settled : (stops : FirstStops) (gtin : List ℕ) (birth by : Placed) (xs : List Placed) → Settled birth by → Settled birth (fold (next_by stops gtin (Some birth)) by xs)
 fold-settled stops gtin birth by [] s = s
-fold-settled stops gtin birth by (x ∷ xs) s = grind (arith, nat_tests, fold-settled stops gtin birth (next_by stops gtin (Some birth) by x) xs (cond_both (is_done (effect_on stops gtin birth by x)) (cond (is_active (standing_in x.entry.item)) birth x) by (Settled birth) (λ d. cond_both (is_active (standing_in x.entry.item)) birth x (Settled birth) (λ a. inl refl) inr) (λ d. s)))
+fold-settled stops gtin birth by (x ∷ xs) s = grind (arith, nat_tests, fold-settled stops gtin birth (next_by stops gtin (Some birth) by x) xs (cond_both (is_done (effect_on stops gtin birth by x)) (cond (is_active (standing_of (message_in x.entry.item))) birth x) by (Settled birth) (λ d. cond_both (is_active (standing_of (message_in x.entry.item))) birth x (Settled birth) (λ a. inl refl) inr) (λ d. s)))
 
 module _ (log : List LogEntry) (pack : PackKey) where
   abbrev own : List Placed
@@ -175,14 +175,14 @@ module _ (log : List LogEntry) (pack : PackKey) where
   last birth = option_map_or (λ b. (fold (next_by S pack.gtin birth) b own).place) birth 0
 
   of-birth : (birth : Option Placed) → IfSome birth (λ x. get_or log x.place no_entry ≡ x.entry)
-      → option_and_then (λ (first : ℕ). held_at log first (last birth)) (option_map place_of birth) ≡ option_map held_of (pack_grown S pack birth own)
+      → option_and_then (λ (first : ℕ). option_map held_of (known_at (entry_at log first) (entry_at log (last birth)))) (option_map place_of birth) ≡ option_map held_of (pack_grown S pack birth own)
   of-birth None s = refl
   of-birth (Some y) s =
       (λ i. option_map held_of (known_at (entry-stands log y s i) (fold-stands log S pack.gtin y own s own-stand i)))
       ∙ ap (option_map held_of) (sym (grown-by S pack y own))
 
   -- a pack is what stands by its last step
-  pub track_state : option_and_then (λ (birth : ℕ). held_at log birth (track_of pack log).by) (track_of pack log).birth ≡ pack_state pack log
+  pub track_state : option_and_then (λ (birth : ℕ). option_map held_of (known_at (entry_at log birth) (entry_at log (kept_of (life_of pack log)).by))) (kept_of (life_of pack log)).birth ≡ pack_state pack log
   track_state = grind (arith, nat_tests, find-stand, known-grown, of-birth, ordered-ascends, ordered-stand)
 
   active-birth : (birth : Option Placed) → IfSome birth (λ x. get_or log x.place no_entry ≡ x.entry) → IfSome birth (λ x. is_upload_of pack x.entry.item ≡ true)
@@ -191,10 +191,10 @@ module _ (log : List LogEntry) (pack : PackKey) where
   active-birth (Some y) s u = grind (arith, nat_tests, fold-settled S pack.gtin y y own (inl refl), fold-stands log S pack.gtin y own s own-stand, grown-by)
 
   -- it is active where it stands by its upload
-  pub track-active : is_counted Active (track_of pack log) ≡ is_held_active (pack_state pack log)
+  pub track-active : is_counted Active (kept_of (life_of pack log)) ≡ is_held_active (pack_state pack log)
   track-active = grind (arith, nat_tests, active-birth, find-stand, find-true (λ placed. is_upload_of pack placed.entry.item) (ordered log), known-grown, ordered-ascends, ordered-stand)
 
 -- the packs that are active, by what is kept and by the log
-pub active-all : (log : List LogEntry) → distinct_count is_same_pack (filter (λ pack. is_counted Active (track_of pack log)) (uploaded_packs log))
+pub active-all : (log : List LogEntry) → distinct_count is_same_pack (filter (λ pack. is_counted Active (kept_of (life_of pack log))) (uploaded_packs log))
     ≡ distinct_count is_same_pack (filter (λ pack. is_held_active (pack_state pack log)) (uploaded_packs log))
 active-all log i = distinct_count is_same_pack (filter (λ pack. track-active log pack i) (uploaded_packs log))

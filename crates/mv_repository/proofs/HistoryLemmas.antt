@@ -1,6 +1,6 @@
 -- What decides a pack in a log: two logs agree on the pack that have the same of it, or the same about it, or distinct stamps and the same
 -- messages. And the places that the tables keep of a pack are those of its history.
-use Rattle.mv_repository.proofs.Words.{◌≡◌, ◌∷◌, ℕ, Bool, false, find, list_any, List, [], refl, sym, ◌∙◌, ap, cond, Option, Some, None, is_some, fold, map, option_map, option_and_then, PackKey, BatchKey, batch_key, Item, Receipt, Carried, LogEntry, BatchStanding, Placed, ordered, KnownPack, known_pack, is_recall_of, is_withdrawal_of, Sent, sent_in, unplaced, is_batch_recalled, AgreeOn, made_batch, entry_of, pack_made_by, FirstStops, first_stops, standing_at, first_upload, statuses_of, pack_changed, pack_step, pack_grown, SentHistory, sent_of, history_of, PackHistory, sent_status, HaveSameHistory, arith, nat_tests, batch_in, ◌++◌, ◌<◌, suc, zero, nat_eq, get_or, length, subst, cond_both, All-contains, All-from_recursion, AllByRecursion, IsDistinct, HasDistinctStamps, HaveSameAbout, HaveSameEntries, Contains, cons_option, passes, put_in, Ascends, IsPermutation, IsPermutation-cons, IsPermutation-middle, IsPermutation-trans, true, true≢false, filter, append-nil, filter-append, list_any-append, IfSome, option_map_or, option_or, filter_map, bears_on, about, known_pack_from, pack_after_item, batch_standing, held_of, is_recalled_by, is_withdrawn_by, is_status_of, is_upload_of, map-append, All-contains_itself, filter_map-append, recursion_from_All, All-permutation, IsPermutation-refl, IsPermutation-sym, IsPermutation-to_front, IsDistinct-IsPermutation, AllPairs, bytes_eq, lookup, is_same_batch, AreAt, Held, pack_state, Stops, AreStopsOf, entry_at, track_of}
+use Rattle.mv_repository.proofs.Words.{◌≡◌, ◌∷◌, ℕ, Bool, false, find, list_any, List, [], refl, sym, ◌∙◌, ap, cond, Option, Some, None, is_some, fold, map, option_map, option_and_then, PackKey, BatchKey, batch_key, Item, Receipt, Carried, LogEntry, BatchStanding, Placed, ordered, KnownPack, known_pack, is_recall_of, is_withdrawal_of, Sent, sent_in, unplaced, is_batch_recalled, AgreeOn, made_batch, entry_of, pack_made_by, FirstStops, first_stops, standing_at, first_upload, statuses_of, pack_changed, pack_step, pack_grown, SentHistory, sent_of, history_of, PackHistory, sent_status, HaveSameHistory, arith, nat_tests, batch_in, ◌++◌, ◌<◌, suc, zero, nat_eq, get_or, length, subst, cond_both, All-contains, All-from_recursion, AllByRecursion, IsDistinct, HasDistinctStamps, HaveSameAbout, HaveSameEntries, Contains, cons_option, passes, put_in, Ascends, IsPermutation, IsPermutation-cons, IsPermutation-middle, IsPermutation-trans, true, true≢false, filter, append-nil, filter-append, list_any-append, IfSome, option_map_or, option_or, filter_map, bears_on, about, known_pack_from, pack_after_item, batch_standing, held_of, is_recalled_by, is_withdrawn_by, is_status_of, is_upload_of, map-append, All-contains_itself, filter_map-append, recursion_from_All, All-permutation, IsPermutation-refl, IsPermutation-sym, IsPermutation-to_front, IsDistinct-IsPermutation, AllPairs, bytes_eq, lookup, is_same_batch, AreAt, Held, pack_state, Stops, AreStopsOf, entry_at, kept_of, life_of}
 use Rattle.mv_repository.proofs.OrderLemmas.{ordered-ascends, by_entries, ordered-push, placed_at, StandsBeforeAll, ordered-of, ordered-stand, filter-all, find-all, order_of}
 use Rattle.mv_repository.proofs.StateLemmas.{known-grown, find-stands, map-stands}
 use Rattle.mv_repository.proofs.TableLemmas.{filter-stand}
@@ -16,7 +16,7 @@ fold-batch stops pack birth held [] = refl
 fold-batch stops pack birth held (x ∷ xs) = grind (arith, nat_tests, changed-batch, fold-batch stops pack birth (pack_step stops pack birth held x) xs)
 
 -- the batch of a pack is that of its upload
-batch-upload : (pack : PackKey) (log : List LogEntry) → batch_in pack log ≡ option_and_then (λ (x : Placed). made_batch x.entry.item) (first_upload pack (ordered log))
+batch-upload : (pack : PackKey) (log : List LogEntry) → batch_in pack log ≡ option_and_then made_batch (first_upload pack (ordered log))
 batch-upload pack log = grind (arith, nat_tests, fold-batch, known-grown, ordered-ascends)
 
 -- a status does to a pack what was sent does, at whatever place
@@ -58,7 +58,7 @@ module _ (pack : PackKey) (stops stops' : FirstStops) where
       grind (arith, nat_tests, same-fold birth birth' (pack_step stops pack birth held x) (pack_step stops' pack birth' held' y) xs ys, changed-batch, same-step)
 
   same-grown : (upload upload' : Option Placed) (batch batch' : Option (List ℕ)) (own own' : List Placed)
-      → batch ≡ option_and_then (λ (x : Placed). made_batch x.entry.item) upload → batch' ≡ option_and_then (λ (x : Placed). made_batch x.entry.item) upload'
+      → batch ≡ option_and_then made_batch upload → batch' ≡ option_and_then made_batch upload'
       → option_and_then sent_of upload ≡ option_and_then sent_of upload'
       → map (sent_status (decided stops upload batch)) own ≡ map (sent_status (decided stops' upload' batch')) own'
       → option_map unplaced (pack_grown stops pack upload own) ≡ option_map unplaced (pack_grown stops' pack upload' own')
@@ -312,7 +312,7 @@ same_entries pack one other distinct apart same =
 module _ (log : List LogEntry) (pack : PackKey) where
   -- the places by what is kept of the pack, by what it is, and by the tables
   pub lent-places : (tables : Stops) (upload : Option ℕ) (statuses : List ℕ) (by : ℕ) (held : Option Held) (recall withdrawal : Option ℕ)
-      → AreStopsOf log tables → record { birth = upload; statuses = statuses; by = by; blocks = [] } ≡ track_of pack log → held ≡ pack_state pack log
+      → AreStopsOf log tables → record { birth = upload; statuses = statuses; by = by; blocks = [] } ≡ kept_of (life_of pack log) → held ≡ pack_state pack log
       → recall ≡ option_and_then (λ (held : Held). lookup (is_same_batch (batch_key pack.gtin held.batch)) tables.recalls.entries) held
       → withdrawal ≡ lookup (bytes_eq pack.gtin) tables.withdrawals.entries
       → record { upload = option_map (entry_at log) upload; statuses = map (entry_at log) statuses; recall = option_map (entry_at log) recall; withdrawal = option_map (entry_at log) withdrawal }

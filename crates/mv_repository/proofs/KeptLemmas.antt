@@ -1,10 +1,9 @@
 -- Lemmas on the table of packs.
-use Rattle.mv_repository.proofs.Words.{◌≡◌, ◌&&◌, bytes_eq, ℕ, List, Option, option_and_then, true, same_text, nat_list_eq_equiv, PackKey, BatchKey, is_same_pack, is_same_batch, Life, Placed, made_batch}
-use Rattle.mv_repository.proofs.Words.{arith, nat_tests}
+use Rattle.mv_repository.proofs.Words.{◌≡◌, ◌&&◌, bytes_eq, ℕ, List, Option, option_and_then, true, same_text, nat_list_eq_equiv, PackKey, BatchKey, is_same_pack, is_same_batch, Life, made_batch, arith, nat_tests}
 
 -- the batch of the upload that made a pack
 abbrev pub life_batch : Life → Option (List ℕ)
-life_batch life = option_and_then (λ (placed : Placed). made_batch placed.entry.item) life.birth
+life_batch life = option_and_then made_batch life.birth
 
 -- keys that pass the test are one
 pub same_pack : (a b : PackKey) → is_same_pack a b ≡ true → a ≡ b
@@ -18,6 +17,9 @@ text-sym a b = nat_list_eq_equiv.symm a b
 
 pub pack-sym : (a b : PackKey) → is_same_pack a b ≡ is_same_pack b a
 pack-sym a b = λ i. text-sym a.gtin b.gtin i && text-sym a.serial b.serial i
+
+pub batch-sym : (a b : BatchKey) → is_same_batch a b ≡ is_same_batch b a
+batch-sym a b = λ i. text-sym a.gtin b.gtin i && text-sym a.batch b.batch i
 
 pub text-self : (a : List ℕ) → bytes_eq a a ≡ true
 text-self a = nat_list_eq_equiv.refl a

@@ -1,6 +1,6 @@
 -- The serial numbers of a product that a log names, after one more entry; and what is kept of all packs, where the shelf of one product is
 -- written.
-use Rattle.mv_repository.proofs.Words.{arith, nat_tests, ◌≡◌, ◌+◌, ◌∷◌, bytes_eq, ℕ, List, [], length, get_or, take, fold, sym, ◌∙◌, ap, subst, true, true≢false, cond, insert_key, Item, Carried, Status, pack_key, PackKey, LogEntry, AreShelfOf, AreSlots, ShelfParts, ShelfTable, Slot, shelf_by, keyed, IsPackOf, IsShelfOf, IsUploadOf, Life, life_of, is_status_of, no_entry, no_shelf, refl, IsDistinct, serials_in, serials_of, ◌||◌, Bool, false, same_text, HashSet, lookup, map, lists, not, has_number, option_map_or, option_map, shelf_of, Some}
+use Rattle.mv_repository.proofs.Words.{arith, nat_tests, ◌≡◌, ◌+◌, ◌∷◌, bytes_eq, ℕ, List, [], length, get_or, take, fold, sym, ◌∙◌, ap, subst, true, true≢false, cond, insert_key, Item, Carried, Status, pack_key, PackKey, LogEntry, AreShelfOf, AreSlots, ShelfParts, ShelfTable, Slot, shelf_by, keyed, IsPackOf, IsShelfOf, IsUploadOf, Life, life_of, is_status_of, no_entry, no_shelf, refl, IsDistinct, serials_in, serials_of, ◌||◌, Bool, false, same_text, HashSet, lookup, map, lists, not, option_map_or, option_map, shelf_of, Some, list_any, ◌==◌}
 use Rattle.mv_repository.proofs.KeptLemmas.{same_pack}
 use Rattle.mv_repository.proofs.SlotLemmas.{slots-longer}
 use Rattle.mv_repository.proofs.StoppedLemmas.{once-all}
@@ -81,18 +81,14 @@ shelved-none old new gtin same empty other = grind (arith, nat_tests, same_text 
 pub shelves-follow : (old new : List (List ℕ × ShelfParts)) (gtin : List ℕ) (shelf : ShelfParts) → IsShelved old new gtin shelf → (whole before : List LogEntry)
     → ((other : List ℕ) → AreShelfOf before other (shelf_of other old)) → AreShelfOf whole gtin shelf
     → ((other : List ℕ) → bytes_eq gtin other ≡ false → (parts : ShelfParts) → AreShelfOf before other parts → AreShelfOf whole other parts) → (other : List ℕ) → AreShelfOf whole other (shelf_of other new)
-shelves-follow old new gtin shelf looks whole before shelves now away other = subst (AreShelfOf whole other) (sym (looks other)) (by (bytes_eq gtin other) refl)
-  where
-    by : (b : Bool) → bytes_eq gtin other ≡ b → AreShelfOf whole other (cond b shelf (shelf_of other old))
-    by true e = subst (λ (one : List ℕ). AreShelfOf whole one shelf) (same_text gtin other (sym e)) now
-    by false e = away other e (shelf_of other old) (shelves other)
+shelves-follow old new gtin shelf looks whole before shelves now away other = grind (arith, nat_tests, looks other, shelves other, away other, same_text gtin other)
 
 -- a number is in the set of a batch
 abbrev pub is_in : {S : Type 0} → List (List ℕ × HashSet ℕ S) → List ℕ → ℕ → Bool
-is_in {S} sets batch number = option_map_or (λ (set : HashSet ℕ S). has_number set.keys number) (lookup (bytes_eq batch) sets) false
+is_in {S} sets batch number = option_map_or (λ (set : HashSet ℕ S). list_any (λ one. one == number) set.keys) (lookup (bytes_eq batch) sets) false
 
 -- sets of numbers by batch, each as a list
-abbrev numbers_in : {S : Type 0} → List (List ℕ × HashSet ℕ S) → List (List ℕ × List ℕ)
+abbrev pub numbers_in : {S : Type 0} → List (List ℕ × HashSet ℕ S) → List (List ℕ × List ℕ)
 numbers_in sets = map (λ entry. (entry.0, entry.1.keys)) sets
 
 -- the numbers of a batch are those of its set

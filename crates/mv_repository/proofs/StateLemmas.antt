@@ -1,6 +1,6 @@
 -- What a pack is depends on its own entries, the first recall of its batch and the first withdrawal of its product. What `next` gives
 -- is one step of it, so the place of one entry is all that has to be kept. The change of a pack names its status.
-use Rattle.mv_repository.proofs.Words.{◌≡◌, ◌∷◌, ◌++◌, List, [], refl, sym, ◌∙◌, append_assoc, Bool, true, false, cond, Option, Some, None, IfSome, find, fold, map, get_or, list_any, option_or, option_map, PackKey, LogEntry, Placed, stands_before, Ascends, KnownPack, batch_standing, pack_after_item, known_pack_from, known_pack, pack_made_by, FirstStops, first_stops, is_before, standing_at, entry_at, place_of, no_entry, is_upload_of, is_status_of, first_upload, statuses_of, pack_changed, pack_step, pack_grown, arith, nat_tests, ◌%◌, ℕ, AllByRecursion, BatchKey, Item, PartySet, has_party, PARTIES_LIMIT, IsCovered, BatchStanding, is_active, is_done, standing_in, change_in, known_at, effect_from, message_in, next_by, next_place, slice_get, Upload, Status, Carried, ordered, NamesStatus, ChangeNamesStatus}
+use Rattle.mv_repository.proofs.Words.{◌≡◌, ◌∷◌, ◌++◌, List, [], refl, sym, ◌∙◌, append_assoc, Bool, true, false, cond, Option, Some, None, IfSome, find, fold, map, get_or, list_any, option_or, option_map, PackKey, LogEntry, Placed, stands_before, Ascends, KnownPack, batch_standing, pack_after_item, known_pack_from, known_pack, pack_made_by, FirstStops, first_stops, is_before, standing_at, entry_at, place_of, no_entry, is_upload_of, is_status_of, first_upload, statuses_of, pack_changed, pack_step, pack_grown, arith, nat_tests, ◌%◌, ℕ, AllByRecursion, BatchKey, Item, PartySet, has_party, PARTIES_LIMIT, IsCovered, BatchStanding, is_active, is_done, change_in, known_at, effect_from, message_in, next_by, next_place, slice_get, Upload, Status, Carried, ordered, NamesStatus, ChangeNamesStatus, standing_of}
 use Rattle.mv_repository.proofs.OrderLemmas.{StandsBeforeAll, Stand, find-all, AreOf, ordered-of}
 use Rattle.mv_repository.specs.declared.effect.Effect.TheVariants as effects
 
@@ -83,13 +83,13 @@ born birth = grind (arith, nat_tests)
 
 module _ (stops : FirstStops) (pack : PackKey) (birth by placed : Placed) (made : KnownPack) (is : pack_made_by birth.entry.item ≡ Some made) where
   abbrev held : KnownPack
-  held = record made { standing = standing_in by.entry.item; change = change_in by }
+  held = record made { standing = standing_of (message_in by.entry.item); change = change_in by }
 
   abbrev standing : BatchKey → BatchStanding
   standing = standing_at stops placed
 
   stepped : (b : Bool) (item : Item) → placed.entry.item ≡ item
-      → known_at birth (cond (is_done (cond b (effect_from standing placed.entry.sender (message_in item) pack.gtin held) effects.Unknown)) (cond (is_active (standing_in item)) birth placed) by)
+      → known_at birth (cond (is_done (cond b (effect_from standing placed.entry.sender (message_in item) pack.gtin held) effects.Unknown)) (cond (is_active (standing_of (message_in item))) birth placed) by)
       ≡ Some (cond b (pack_changed standing placed.place placed.entry.sender item pack held) held)
   stepped false item e = grind (arith, nat_tests)
   stepped true item e = grind (arith, nat_tests)
@@ -115,7 +115,7 @@ grown-by stops pack birth xs = grind (arith, nat_tests, born, grown-from)
 
 -- so it does by many
 pub own_passed : (log : List LogEntry) (stops : FirstStops) (gtin : List ℕ) (birth by : ℕ) (own : List ℕ) (reverters : PartySet)
-    → is_active (standing_in (entry_at log by).entry.item) ≡ false → has_party reverters ((entry_at log by).entry.sender % PARTIES_LIMIT) ≡ false
+    → is_active (standing_of (message_in (entry_at log by).entry.item)) ≡ false → has_party reverters ((entry_at log by).entry.sender % PARTIES_LIMIT) ≡ false
     → AllByRecursion (λ place. IsCovered reverters (entry_at log place)) own → fold (next_place log stops gtin birth) by own ≡ by
 own_passed log stops gtin birth by [] reverters changed none covered = refl
 own_passed log stops gtin birth by (place ∷ own) reverters changed none covered = grind (arith, nat_tests, own_passed log stops gtin birth by own reverters changed none covered.1)

@@ -1,5 +1,5 @@
 -- What the tables are after one more entry of the log.
-use Rattle.mv_repository.proofs.Words.{◌≡◌, ◌+◌, ◌∷◌, ◌++◌, bytes_eq, ℕ, zero, suc, arith, take, List, [], length, get_or, refl, sym, ◌∙◌, ap, Bool, true, false, cond, Option, Some, None, filter, find, map, get_or_push, length-take-le, lookup, option_map, Item, is_same_batch, BatchKey, LogEntry, recalled_in, serials_in, uploaded_in, Placed, passes, put_in, ordered, Ascends, is_recall_of, is_withdrawal_of, withdrawn_in, Stops, first_stops, stops_in, place_of, no_entry, AreFirstsOf, AreStopsOf, comes_first, earlier_place, AreFound, entry_at, PackKey, is_upload_of, is_status_of, nat_tests, is_master, last_or}
+use Rattle.mv_repository.proofs.Words.{◌≡◌, ◌+◌, ◌∷◌, ◌++◌, bytes_eq, ℕ, zero, suc, arith, take, List, [], length, get_or, refl, sym, ◌∙◌, ap, Bool, true, false, cond, Option, Some, None, filter, find, map, get_or_push, length-take-le, lookup, option_map, Item, is_same_batch, BatchKey, LogEntry, recalled_in, serials_in, uploaded_in, Placed, passes, put_in, ordered, Ascends, is_recall_of, is_withdrawal_of, withdrawn_in, Stops, first_stops, stops_in, place_of, no_entry, AreFirstsOf, AreStopsOf, comes_first, entry_at, PackKey, is_upload_of, is_status_of, nat_tests, is_master, last_or}
 use Rattle.mv_repository.proofs.OrderLemmas.{StandsBeforeAll, placed_at, ordered-ascends, ordered-push, Stand, still-stand, filter-all}
 use Rattle.mv_repository.proofs.StateLemmas.{find-stand, find-stands}
 use Rattle.mv_repository.proofs.StoppedLemmas.{once-all, no-recall, no-withdrawal}
@@ -85,7 +85,7 @@ pub filter-none : (f : Placed → Bool) (log : List LogEntry) (entry : LogEntry)
 filter-none f log entry h = filter-more f log entry ∙ ap (λ b. cond b (put_in (newest log entry) (filter f (ordered log))) (filter f (ordered log))) h
 
 pub find-some : (f : Placed → Bool) (log : List LogEntry) (entry : LogEntry) → f (newest log entry) ≡ true
-    → option_map place_of (find f (ordered (longer log entry))) ≡ earlier_place (longer log entry) (length log) (option_map place_of (find f (ordered log)))
+    → option_map place_of (find f (ordered (longer log entry))) ≡ cond (comes_first (longer log entry) (length log) (option_map place_of (find f (ordered log)))) (Some (length log)) (option_map place_of (find f (ordered log)))
 find-some f log entry h = grind (arith, nat_tests, find-more, find-stand f (longer log entry) (ordered log) (still-stand log entry), newest-stands)
 
 -- an entry of a kind that is not the first of the kind leaves the first
@@ -121,7 +121,8 @@ pub found-more : {K : Type 0} (same : K → K → Bool) (is_of : K → Item → 
     → ((other : K) → same key other ≡ true → key ≡ other) → ((k : K) → is_of k entry.item ≡ same key k)
     → ((f : Placed → Bool) → f (newest log entry) ≡ false → pick' f ≡ pick f)
     → (places places' : List (K × ℕ)) (now : Option ℕ) → ((k : K) → lookup (same k) places' ≡ cond (same key k) now (lookup (same k) places))
-    → now ≡ option_map place_of (pick' (λ placed. is_of key placed.entry.item)) → AreFound same is_of pick places → AreFound same is_of pick' places'
+    → now ≡ option_map place_of (pick' (λ placed. is_of key placed.entry.item)) → ((k : K) → lookup (same k) places ≡ option_map place_of (pick (λ placed. is_of k placed.entry.item)))
+    → (k : K) → lookup (same k) places' ≡ option_map place_of (pick' (λ placed. is_of k placed.entry.item))
 found-more {K} same is_of log entry pick pick' key one names others places places' now looks is found k = grind (arith, nat_tests)
 
 pub firsts-stay : {K : Type 0} (same : K → K → Bool) (is_of : K → Item → Bool) (keys_in : Item → List K) (log : List LogEntry) (entry : LogEntry) (places : List (K × ℕ))
@@ -141,4 +142,4 @@ stops-stay log entry tables none stops = grind (arith, nat_tests, recalls-stay, 
 
 -- the table has, for each code, the place of its last master by stamp order, and nothing where there is none
 abbrev pub AreMastersOf : List LogEntry → List (List ℕ × ℕ) → Type 0
-AreMastersOf log masters = AreFound bytes_eq is_master (λ test. last_or None (filter test (ordered log))) masters
+AreMastersOf log masters = (gtin : List ℕ) → lookup (bytes_eq gtin) masters ≡ option_map place_of (last_or None (filter (λ placed. is_master gtin placed.entry.item) (ordered log)))

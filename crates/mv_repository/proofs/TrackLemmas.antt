@@ -1,5 +1,5 @@
 -- What is kept of a pack, and worked out by places in a log, is what the log means; and where a status goes.
-use Rattle.mv_repository.proofs.Words.{AllByRecursion, AreBlocks, AreStopsOf, Ascends, BatchKey, BatchStanding, Block, Carried, Effect, FirstStops, IfSome, IsCovered, IsKept, IsTrack, Item, Kept, KnownPack, List, LogEntry, None, Option, PackKey, PartySet, Placed, Some, Status, Stops, [], ap, arith, batch_key, batch_standing, change_effect, cond, cond_both, drop, drop-map, effect_after, effect_from, effect_of, effect_on, entries_before, entry_at, false, filter, first_stops, first_upload, fold, get_or, get_or-insert_at, insert, is_active, is_done, is_master, is_same_pack, is_status_of, is_upload_of, known_pack, length, length-map, length-take-le, life_of, map, message_in, nat_tests, next_by, next_place, no_entry, option_map, option_map_or, ordered, pack_grown, place_of, refl, rules, standing_at, standing_in, statuses_of, stops_in, subst, sym, take, take-map, take_at, track_of, true, true≢false, without, uploaded_in, ℕ, ◌+◌, ◌<◌, ◌∙◌, ◌∷◌, ◌≡◌, ◌≤◌, zero, suc, not, Bool, passes, stands_before, IsPartitionedBy, IsPartitionPoint}
+use Rattle.mv_repository.proofs.Words.{AllByRecursion, AreBlocks, AreStopsOf, Ascends, BatchKey, BatchStanding, Block, Carried, Effect, FirstStops, IfSome, IsCovered, IsKept, IsTrack, Item, Kept, KnownPack, List, LogEntry, None, Option, PackKey, PartySet, Placed, Some, Status, Stops, [], ap, arith, batch_key, batch_standing, change_effect, cond, cond_both, drop, drop-map, effect_after, effect_from, effect_of, effect_on, entries_before, entry_at, false, filter, first_stops, first_upload, fold, get_or, get_or-insert_at, insert, is_active, is_done, is_master, is_same_pack, is_status_of, is_upload_of, known_pack, length, length-map, length-take-le, life_of, map, message_in, nat_tests, next_by, next_place, no_entry, option_map, option_map_or, ordered, pack_grown, place_of, refl, rules, standing_at, statuses_of, stops_in, subst, sym, take, take-map, take_at, kept_of, true, true≢false, without, uploaded_in, ℕ, ◌+◌, ◌<◌, ◌∙◌, ◌∷◌, ◌≡◌, ◌≤◌, zero, suc, not, Bool, passes, stands_before, IsPartitionedBy, IsPartitionPoint, standing_of}
 use Rattle.mv_repository.proofs.OrderLemmas.{ordered-ascends, ordered-below, ordered-stand, Stand, still-stand, StandsBeforeAll}
 use Rattle.mv_repository.proofs.BlockLemmas.{without-insert}
 use mathlib.Core.Path.{transport}
@@ -58,8 +58,8 @@ module _ (log : List LogEntry) (stops : FirstStops) (gtin : List ℕ) (birth : �
 
   next-at : (by x : ℕ) → entry_at log (N by x) ≡ next (entry_at log by) (entry_at log x)
   next-at by x =
-      cond_both (is_done (effect_on stops gtin (entry_at log birth) (entry_at log by) (entry_at log x))) (cond (is_active (standing_in (entry_at log x).entry.item)) (entry_at log birth) (entry_at log x)) (entry_at log by) IsThere
-      (λ d. cond_both (is_active (standing_in (entry_at log x).entry.item)) (entry_at log birth) (entry_at log x) IsThere (λ a. refl) (λ a. refl)) (λ d. refl)
+      cond_both (is_done (effect_on stops gtin (entry_at log birth) (entry_at log by) (entry_at log x))) (cond (is_active (standing_of (message_in (entry_at log x).entry.item))) (entry_at log birth) (entry_at log x)) (entry_at log by) IsThere
+      (λ d. cond_both (is_active (standing_of (message_in (entry_at log x).entry.item))) (entry_at log birth) (entry_at log x) IsThere (λ a. refl) (λ a. refl)) (λ d. refl)
 
   fold-at : (by : ℕ) (xs : List ℕ) → entry_at log (fold N by xs) ≡ fold next (entry_at log by) (map (entry_at log) xs)
   fold-at by [] = refl
@@ -153,7 +153,7 @@ status-form pack item h1 = search rules
 
 -- what is kept of a pack, once a status of it is put in
 pub track-status : (log : List LogEntry) (entry : LogEntry) (tables : Stops) (pack : PackKey) (kept : Kept) → AreStopsOf log tables → is_status_of pack entry.item ≡ true
-    → kept.birth ≡ (track_of pack log).birth → kept.statuses ≡ put_place (longer log entry) (length log) (track_of pack log).statuses
+    → kept.birth ≡ (kept_of (life_of pack log)).birth → kept.statuses ≡ put_place (longer log entry) (length log) (kept_of (life_of pack log)).statuses
     → IsTrack (longer log entry) (stops_in (longer log entry) tables) pack.gtin kept → IsKept (life_of pack (longer log entry)) kept
 track-status log entry tables pack kept stops own b p w = grind (arith, nat_tests, filter-some, find-none, stops-stay, track-is)
 
@@ -188,8 +188,8 @@ module _ (log : List LogEntry) (entry : LogEntry) (pack : PackKey) (xs : List Pl
 
 -- it is what the status does
 pub status-effect : (log : List LogEntry) (entry : LogEntry) (tables : Stops) (pack : PackKey) (front : List ℕ) → AreStopsOf log tables → is_status_of pack entry.item ≡ true
-    → front ≡ places_before (longer log entry) (length log) (track_of pack log).statuses
-    → effect_at (longer log entry) (stops_in (longer log entry) tables) pack.gtin (track_of pack log).birth front (length log) ≡ effect_of log entry
+    → front ≡ places_before (longer log entry) (length log) (kept_of (life_of pack log)).statuses
+    → effect_at (longer log entry) (stops_in (longer log entry) tables) pack.gtin (kept_of (life_of pack log)).birth front (length log) ≡ effect_of log entry
 status-effect log entry tables pack front stops own p =
     let whole = longer log entry in
     let x = newest log entry in

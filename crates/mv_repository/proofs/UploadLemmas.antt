@@ -1,5 +1,5 @@
 -- An upload in what is kept of one pack; and what bears on one product and no other.
-use Rattle.mv_repository.proofs.Words.{AreStopsOf, Bool, IfSome, IsChanged, IsPackOf, IsPut, IsShelfOf, IsUploadOf, Item, Kept, Life, List, LogEntry, Option, PackKey, Placed, ShelfTable, Some, Stops, [], ap, arith, batch_at, bytes_eq, comes_first, common_steps, cond, earlier_place, false, first_stops, first_upload, get_or, insert_key, is_listed, is_master, is_status_of, is_upload_of, kept_in, length, life_of, list_any, list_any_more, lookup, made_batch, nat_tests, no_entry, option_and_then, option_map, or-false, or-true, ordered, pack_key, place_of, refl, same_text, serials_uploaded, stops_in, subst, sym, take, track_of, true, ℕ, ◌&&◌, ◌+◌, ◌<◌, ◌||◌, ◌∙◌, ◌∷◌, ◌≡◌}
+use Rattle.mv_repository.proofs.Words.{AreStopsOf, Bool, IfSome, IsChanged, IsPackOf, IsPut, IsShelfOf, IsUploadOf, Item, Kept, Life, List, LogEntry, Option, PackKey, Placed, ShelfTable, Some, Stops, [], ap, arith, bytes_eq, comes_first, common_steps, cond, false, first_stops, first_upload, get_or, insert_key, is_listed, is_master, is_status_of, is_upload_of, kept_in, length, life_of, list_any, list_any_more, lookup, made_batch, nat_tests, no_entry, option_and_then, option_map, or-false, or-true, ordered, pack_key, place_of, refl, same_text, serials_uploaded, stops_in, subst, sym, take, kept_of, true, ℕ, ◌&&◌, ◌+◌, ◌<◌, ◌||◌, ◌∙◌, ◌∷◌, ◌≡◌, entry_at}
 use Rattle.mv_repository.proofs.KeptLemmas.{life_batch, text-self}
 use Rattle.mv_repository.proofs.OrderLemmas.{ordered-stand}
 use Rattle.mv_repository.proofs.StateLemmas.{find-stand}
@@ -39,15 +39,15 @@ ArePacksOf now before done gtin shelf = (serial : List ℕ) → IsPackOf (life_o
 
 -- the batch of the upload at its place
 pub batch-there : (log : List LogEntry) (o : Option Placed) → IfSome o (λ x. get_or log x.place no_entry ≡ x.entry)
-    → option_and_then (batch_at log) (option_map place_of o) ≡ option_and_then (λ (x : Placed). made_batch x.entry.item) o
+    → option_and_then (λ place. made_batch (entry_at log place)) (option_map place_of o) ≡ option_and_then made_batch o
 batch-there log o h = grind (arith, nat_tests)
 
 -- an upload that names a pack is its first, or leaves it; by the log in front of the upload, or with it
 abbrev IsBorn : PackKey → List LogEntry → List LogEntry → ℕ → Type 0
 IsBorn pack log whole place = (done : Bool) →
-    (earlier_place whole place (track_of pack (cond done whole log)).birth ≡ (track_of pack whole).birth)
-    × ((track_of pack (cond done whole log)).statuses ≡ (track_of pack whole).statuses)
-    × (comes_first whole place (track_of pack (cond done whole log)).birth ≡ false → life_of pack (cond done whole log) ≡ life_of pack whole)
+    (cond (comes_first whole place (kept_of (life_of pack (cond done whole log))).birth) (Some place) (kept_of (life_of pack (cond done whole log))).birth ≡ (kept_of (life_of pack whole)).birth)
+    × ((kept_of (life_of pack (cond done whole log))).statuses ≡ (kept_of (life_of pack whole)).statuses)
+    × (comes_first whole place (kept_of (life_of pack (cond done whole log))).birth ≡ false → life_of pack (cond done whole log) ≡ life_of pack whole)
 
 is-born : (log : List LogEntry) (entry : LogEntry) (pack : PackKey) → is_upload_of pack entry.item ≡ true → is_status_of pack entry.item ≡ false → StopsNone entry.item
     → IsBorn pack log (longer log entry) (length log)
@@ -83,19 +83,19 @@ module _ (whole : List LogEntry) (place : ℕ) (l : length whole ≡ place + 1) 
       born = at-newest whole place l (IsBorn pack log) (is-born log entry pack (upload-has entry.item gtin serials upload serial ∙ among)
           ((upload-form entry.item gtin serials upload).0 pack) (upload-form entry.item gtin serials upload).1)
 
-      first : comes_first whole place (track_of pack (cond done whole log)).birth ≡ comes_first whole place (kept_in old serial).birth
+      first : comes_first whole place (kept_of (life_of pack (cond done whole log))).birth ≡ comes_first whole place (kept_in old serial).birth
       first = sym (ap (λ (k : Kept). comes_first whole place k.birth) of.kept.bare)
 
       by : (b : Bool) → comes_first whole place (kept_in old serial).birth ≡ b → IsPackOf (life_of pack whole) new serial
       by false e =
           subst (λ (shelf : ShelfTable). IsPackOf (life_of pack whole) shelf serial) (sym (put.later e)) (subst (λ (life : Life). IsPackOf life old serial) ((born done).2 (first ∙ e)) of)
       by true e =
-          let birth : Some place ≡ (track_of pack whole).birth = sym (ap (λ b. cond b (Some place) (track_of pack (cond done whole log)).birth) (first ∙ e)) ∙ (born done).0 in
+          let birth : Some place ≡ (kept_of (life_of pack whole)).birth = sym (ap (λ b. cond b (Some place) (kept_of (life_of pack (cond done whole log))).birth) (first ∙ e)) ∙ (born done).0 in
           record {
             kept = track-is whole tables pack (kept_in new serial) still ((put.again e).birth ∙ birth)
                 ((put.again e).statuses ∙ ap (λ (k : Kept). k.statuses) of.kept.bare ∙ (born done).1) (put.again e).worked;
             listed = subst (λ (o : Option (List ℕ)). IfSome o (λ batch. is_listed new.listing (lookup (bytes_eq serial) new.slots) batch ≡ true))
-                (ap (option_and_then (batch_at whole)) birth
+                (ap (option_and_then (λ place. made_batch (entry_at whole place))) birth
                 ∙ batch-there whole (first_upload pack (ordered whole)) (find-stand (λ placed. is_upload_of pack placed.entry.item) whole (ordered whole) (ordered-stand whole))) (put.listed e);
           }
 
@@ -124,6 +124,10 @@ module _ (whole : List LogEntry) (place : ℕ) (l : length whole ≡ place + 1) 
           sym (untouched log entry (pack_key gtin serial) (upload-has entry.item gtin serials upload serial ∙ h) ((upload-form entry.item gtin serials upload).0 (pack_key gtin serial)) (upload-form entry.item gtin serials upload).1)
           ∙ ap (life_of (pack_key gtin serial)) (sym (log-split whole place l))
 
+-- so is that of the first upload of a pack
+pub batch-noted : (whole : List LogEntry) (pack : PackKey) → option_and_then (λ place. made_batch (entry_at whole place)) (kept_of (life_of pack whole)).birth ≡ life_batch (life_of pack whole)
+batch-noted whole pack = batch-there whole (first_upload pack (ordered whole)) (find-stand (λ placed. is_upload_of pack placed.entry.item) whole (ordered whole) (ordered-stand whole))
+
 -- a status leaves the other packs of its product, and the upload of its own
 module _ (whole : List LogEntry) (place : ℕ) (pack : PackKey) (l : length whole ≡ place + 1) (own : is_status_of pack (get_or whole place no_entry).item ≡ true) where
   abbrev before : List LogEntry
@@ -133,10 +137,7 @@ module _ (whole : List LogEntry) (place : ℕ) (pack : PackKey) (l : length whol
   first-stays = grind (arith, nat_tests, find-none, log-split whole place l, status-form pack (get_or whole place no_entry).item own)
 
   pub batch-kept : life_batch (life_of pack whole) ≡ life_batch (life_of pack before)
-  batch-kept = ap (option_and_then (λ (x : Placed). made_batch x.entry.item)) first-stays
-
-  pub batch-noted : option_and_then (batch_at whole) (track_of pack before).birth ≡ life_batch (life_of pack whole)
-  batch-noted = grind (arith, nat_tests, first-stays, batch-there whole (first_upload pack (ordered whole)) (find-stand (λ placed. is_upload_of pack placed.entry.item) whole (ordered whole) (ordered-stand whole)))
+  batch-kept = ap (option_and_then made_batch) first-stays
 
   pub status-others : (old new : ShelfTable) → IsShelfOf before pack.gtin old → IsChanged pack.serial old new → IsPackOf (life_of pack whole) new pack.serial → IsShelfOf whole pack.gtin new
   status-others old new are changed now = record {

@@ -1,7 +1,7 @@
 -- Uploads: which packs a log names, and how many of those that an upload names are new; and the counts of a log that its tables of keys give.
-use Rattle.mv_repository.proofs.Words.{◌≡◌, ◌+◌, ◌<◌, ◌∷◌, ◌++◌, ◌&&◌, ◌||◌, nat_tests, bytes_eq, ℕ, List, [], length, take, get_or, refl, sym, ◌∙◌, ap, arith, subst, append-nil, length-append, Bool, true, false, cond, not, Option, is_some, find, filter, map, or-false, flat_map-append, length-map, take_more, filter-append, list_any-append, is_member-filter, IsEquivalence, same_text, nat_list_eq_equiv, list_any, flat_map, option_map, distinct_count, is_member, Item, Carried, Upload, is_same_pack, pack_key, PackKey, LogEntry, uploaded_in, uploaded_packs, entries_before, Placed, put_in, ordered, has_pack, known_pack, IsUploadOf, is_before, place_of, comes_first, earlier_place, is_upload_of, track_of, list_any-IsPermutation, Some, length-keys_of, length-from_keys, is_some-lookup, IsDistinct, last_or, lookup, keys_of, is_same_batch, BatchKey, mastered_in, recalled_in, is_master, is_recall_of, Stops, AreStopsOf}
+use Rattle.mv_repository.proofs.Words.{◌≡◌, ◌+◌, ◌<◌, ◌∷◌, ◌++◌, ◌&&◌, ◌||◌, nat_tests, bytes_eq, ℕ, List, [], length, take, get_or, refl, sym, ◌∙◌, ap, arith, subst, append-nil, length-append, Bool, true, false, cond, not, Option, is_some, find, filter, map, or-false, flat_map-append, length-map, take_more, filter-append, list_any-append, is_member-filter, IsEquivalence, same_text, nat_list_eq_equiv, list_any, flat_map, option_map, distinct_count, is_member, Item, Carried, Upload, is_same_pack, pack_key, PackKey, LogEntry, uploaded_in, uploaded_packs, entries_before, Placed, put_in, ordered, has_pack, known_pack, IsUploadOf, is_before, place_of, comes_first, is_upload_of, kept_of, life_of, list_any-IsPermutation, Some, length-keys_of, length-from_keys, is_some-lookup, IsDistinct, last_or, lookup, keys_of, is_same_batch, BatchKey, mastered_in, recalled_in, is_master, is_recall_of, Stops, AreStopsOf, rules}
 use Rattle.mv_repository.proofs.BeforeLemmas.{find-below, known-before, any-find}
-use Rattle.mv_repository.proofs.KeptLemmas.{text-sym, text-self, same_batch}
+use Rattle.mv_repository.proofs.KeptLemmas.{batch-sym, text-sym}
 use Rattle.mv_repository.proofs.OrderLemmas.{put_in-permutes, find-true, ordered-below, still-stand, by_entries, ordered-push}
 use Rattle.mv_repository.proofs.StateLemmas.{find-stand}
 use Rattle.mv_repository.proofs.TableLemmas.{AreMastersOf, longer, newest, newest-stands, find-some}
@@ -40,7 +40,7 @@ pub uploaded-any : (log : List LogEntry) (pack : PackKey) → is_member is_same_
 uploaded-any log pack = any-flat (is_same_pack pack) uploaded_in (is_upload_of pack) (uploaded-is pack) log
 
 -- a pack has a first upload where a log names it
-pub uploaded-found : (log : List LogEntry) (pack : PackKey) → is_some (track_of pack log).birth ≡ is_member is_same_pack (uploaded_packs log) pack
+pub uploaded-found : (log : List LogEntry) (pack : PackKey) → is_some (kept_of (life_of pack log)).birth ≡ is_member is_same_pack (uploaded_packs log) pack
 uploaded-found log pack = grind (arith, nat_tests, any-ordered (is_upload_of pack) log, found-any, uploaded-any)
 
 -- the newest entry comes first of its kind where none of the kind stands before it
@@ -53,7 +53,7 @@ first-effect f log entry first e =
 
 -- a pack is absent before the newest entry where that comes before its first upload
 pub absent-before : (log : List LogEntry) (entry : LogEntry) (pack : PackKey)
-    → comes_first (longer log entry) (length log) (track_of pack log).birth ≡ not (is_some (known_pack pack (entries_before log entry)))
+    → comes_first (longer log entry) (length log) (kept_of (life_of pack log)).birth ≡ not (is_some (known_pack pack (entries_before log entry)))
 absent-before log entry pack =
     let stand = find-stand (λ placed. is_upload_of pack placed.entry.item) (longer log entry) (ordered log) (still-stand log entry) in
     let own = find-true (λ y. is_upload_of pack y.entry.item) (ordered log) in
@@ -73,7 +73,7 @@ new_count log entry gtin serials = distinct_count bytes_eq (filter (λ serial. n
 module _ (log : List LogEntry) (entry : LogEntry) (gtin : List ℕ) (serials : List (List ℕ)) (upload : IsUploadOf entry.item gtin serials) where
   abbrev pub More : List LogEntry → ℕ → Type 0
   More whole place = (at count : ℕ) (is_new : Bool) → at < length serials
-      → is_new ≡ comes_first whole place (track_of (pack_key gtin (get_or serials at [])) (cond (has (take at serials) (get_or serials at [])) whole log)).birth
+      → is_new ≡ comes_first whole place (kept_of (life_of (pack_key gtin (get_or serials at [])) (cond (has (take at serials) (get_or serials at [])) whole log))).birth
       → count ≡ new_count log entry gtin (take at serials) → cond is_new (count + 1) count ≡ new_count log entry gtin (take (at + 1) serials)
 
   more_newest : More (longer log entry) (length log)
@@ -92,10 +92,10 @@ module _ (log : List LogEntry) (entry : LogEntry) (gtin : List ℕ) (serials : L
       front : List (List ℕ)
       front = filter absent (take i serials)
 
-      birth : (track_of key (longer log entry)).birth ≡ earlier_place (longer log entry) (length log) (track_of key log).birth
+      birth : (kept_of (life_of key (longer log entry))).birth ≡ cond (comes_first (longer log entry) (length log) (kept_of (life_of key log)).birth) (Some (length log)) (kept_of (life_of key log)).birth
       birth = find-some (λ placed. is_upload_of key placed.entry.item) log entry (upload-has entry.item gtin serials upload s ∙ has-own serials i l)
 
-      seen : comes_first (longer log entry) (length log) (track_of key (cond (has (take i serials) s) (longer log entry) log)).birth ≡ (not (has (take i serials) s) && absent s)
+      seen : comes_first (longer log entry) (length log) (kept_of (life_of key (cond (has (take i serials) s) (longer log entry) log))).birth ≡ (not (has (take i serials) s) && absent s)
       seen = grind (arith, nat_tests, absent, absent-before, birth, key, longer, s)
 
       among : (xs : List (List ℕ)) → has xs s ≡ is_member bytes_eq xs s
@@ -143,11 +143,7 @@ count-products log masters distinct places =
     (λ gtin. grind (arith, any-flat (bytes_eq gtin) mastered_in (is_master gtin) (mastered-is gtin) log, any-ordered (is_master gtin) log, last-found, places gtin, some-map))
 
 batch-equiv : IsEquivalence is_same_batch
-batch-equiv = record {
-  refl = λ x i. text-self x.gtin i && text-self x.batch i;
-  symm = λ x y i. text-sym x.gtin y.gtin i && text-sym x.batch y.batch i;
-  congr = λ x y z e. ap (λ (q : BatchKey). is_same_batch q z) (same_batch x y e);
-}
+batch-equiv = search (rules, batch-sym)
 
 pub count-recalled : (log : List LogEntry) (tables : Stops) → IsDistinct is_same_batch (keys_of tables.recalls.entries) → AreStopsOf log tables → length tables.recalls.entries ≡ distinct_count is_same_batch (flat_map (λ entry. recalled_in entry.item) log)
 count-recalled log tables distinct stops =

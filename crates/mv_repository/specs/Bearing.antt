@@ -53,10 +53,7 @@ is_before first placed = option_map_or (λ one. stands_before one placed) first 
 
 -- how a batch stands where an entry stands
 abbrev pub standing_at : FirstStops → Placed → BatchKey → BatchStanding
-standing_at stops placed batch = record {
-  recalled = is_before (stops.recall batch) placed;
-  withdrawn = is_before (stops.withdrawal batch.gtin) placed;
-}
+standing_at stops placed batch = record { recalled = is_before (stops.recall batch) placed; withdrawn = is_before (stops.withdrawal batch.gtin) placed }
 
 -- the pack that an upload makes; none where a message is no upload
 abbrev pub pack_of : Message → Option KnownPack

@@ -3,7 +3,7 @@
 pub use Rattle.indexmap.specs.IndexMap.{spare as map_spare}
 pub use Rattle.indexmap.specs.IndexSet.{insert_all, insert_key, spare as set_spare}
 pub use Rattle.mv_link.specs.declared.item.Item.TheVariants.{Carried, Receipt}
-pub use Rattle.mv_link.specs.declared.item.Item.{Item}
+pub use Rattle.mv_link.specs.declared.item.Item.{Item, Item as AnItem}
 pub use Rattle.mv_link.specs.declared.limits.TheConstants.{PARTIES_LIMIT}
 pub use Rattle.mv_link.specs.declared.party_set.PartySet.{PartySet}
 pub use Rattle.mv_message.specs.declared.found.Found.{Found}

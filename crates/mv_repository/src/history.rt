@@ -85,8 +85,7 @@ pub struct History<'a> {
 }
 
 impl<'a> Model for History<'a> {
-    ghost use Rattle.mv_repository.specs.Agreement.{PackHistory};
-    ghost use Rattle.mv_repository.specs.inside.Track.{AreAt, history_at};
+    ghost use Rattle.mv_repository.specs.Clauses.{AreAt, PackHistory, history_at};
 
     ghost Value = { PackHistory };
 

@@ -3,8 +3,8 @@
 //!
 //! It stands apart since no other table bears on it: it changes at receipts of queries and at answers alone.
 
-ghost use Rattle.std.specs.Prelude.{◌≡◌, ◌≤◌, ◌∷◌, ◌++◌};
-ghost use Rattle.mv_repository.specs.Clauses.{AnEntry, HasRoom, IsInquiriesOf, List, OnOk, [], filter, has_reply, inquiry_after, joint_verdict, length, not, query_of, ℕ};
+ghost use Rattle.std.specs.Prelude.{◌≡◌, ◌≤◌, ◌∷◌, ◌++◌, ◌<◌};
+ghost use Rattle.mv_repository.specs.Clauses.{AnEntry, IsInquiriesOf, List, OnOk, [], filter, has_reply, inquiry_after, joint_verdict, length, not, query_of, ℕ, Some, map_spare, set_spare};
 
 use crate::Joint;
 use crate::verdict::{found_active, found_explained, verdict_when};
@@ -25,12 +25,18 @@ struct Inquiry {
 }
 
 /// What a repository knows of the queries of its own party.
-#[derive(Drop)]
 pub struct Inquiries {
     /// What is known of each query, by its number among the messages of the party.
     inquiries: IndexMap<u32, Inquiry>,
     /// Which query was answered, by its number, and by which party.
     replies: IndexSet<(u32, Party)>,
+}
+
+// Written here, so that the drop of a repository proves nothing of how these tables are dropped.
+impl Drop for Inquiries {
+    fn drop(self) {
+        let Self { inquiries, replies } = self;
+    }
 }
 
 impl Inquiries {
@@ -46,18 +52,17 @@ impl Inquiries {
 
     /// Gets room for one more query and one more answer. Refused for want of memory; either way it is known what was known.
     pub fn reserve(&mut self) -> Result<(), AllocError>
-        ensures room { OnOk result (HasRoom self.new) }
+        ensures room { OnOk result ((0 < map_spare self.new.inquiries) × (0 < set_spare self.new.replies)) }
         ensures same { (party : ℕ) (log : List AnEntry) → IsInquiriesOf party log self.old
             → IsInquiriesOf party log self.new }
     {
         self.inquiries.reserve(1)?;
-        self.replies.reserve(1)?;
-        Ok(())
+        self.replies.reserve(1)
     }
 
     /// Notes an item from a sender, which comes last in the log of the party.
     pub fn note(&mut self, party: Party, sender: Party, item: &Item)
-        requires { HasRoom self.old }
+        requires { (0 < map_spare self.old.inquiries) × (0 < set_spare self.old.replies) }
         ensures { (log : List AnEntry) → IsInquiriesOf party log self.old
             → IsInquiriesOf party (log ++ record { sender = sender; item = item.now } ∷ []) self.new }
     {

@@ -1,7 +1,7 @@
 //! For each batch of a product the numbers of the tracks that may be of it: what a recall has to look at.
 
-ghost use Rattle.std.specs.Prelude.{◌≡◌};
-ghost use Rattle.mv_repository.specs.Clauses.{IfSome, List, MatchOption, [], batch_at, has_number, lists, may_stop, option_and_then, true, ℕ};
+ghost use Rattle.std.specs.Prelude.{◌≡◌, ◌==◌};
+ghost use Rattle.mv_repository.specs.Clauses.{IfSome, List, MatchOption, [], lists, may_stop, option_and_then, true, ℕ, Some, entry_at, list_any, made_batch};
 
 use crate::LogEntry;
 use crate::entry::message_at;
@@ -49,7 +49,7 @@ impl Listing {
     /// whole any more.
     #[tactic(auto, using(crate::proofs::SerialLemmas::listed_in))]
     pub fn note(&mut self, log: &[LogEntry], birth: Option<u32>, number: u32)
-        ensures added { IfSome (option_and_then (batch_at log.now) birth) (λ batch. lists self.new batch number ≡ true) }
+        ensures added { IfSome (option_and_then (λ place. made_batch (entry_at log.now place)) birth) (λ batch. lists self.new batch number ≡ true) }
         ensures kept { (batch : List ℕ) (other : ℕ) → lists self.old batch other ≡ true → lists self.new batch other ≡ true }
     {
         let Some(birth) = birth else {
@@ -69,7 +69,7 @@ impl Listing {
     /// The numbers of the tracks that a stop may bear on, each once; none where it may bear on any.
     pub fn of(&self, stop: &Stop<'_>) -> Option<&[u32]>
         ensures { MatchOption result ((number : ℕ) → may_stop self.now stop.now number ≡ true)
-            (λ numbers. (number : ℕ) → may_stop self.now stop.now number ≡ has_number numbers.now number) }
+            (λ numbers. (number : ℕ) → may_stop self.now stop.now number ≡ list_any (λ one. one == number) numbers.now) }
     {
         match *stop {
             Stop::OfBatch(key) if self.is_whole => match self.batches.get(&key.batch) {

@@ -1,7 +1,7 @@
 //! A national repository: its log, the tables of it, and what it knows of its own queries.
 
 ghost use Rattle.std.specs.Prelude.{◌≡◌};
-ghost use Rattle.mv_repository.specs.Clauses.{IfOk, OnErr, OnOk, [], answer_after, answer_to, batch_key, counts_of, effect_of, found_of, history_of, is_recalled, is_withdrawn, items_from, joint_verdict, local_verdict, new_repository, option_copied, pack_state, product_of, recalled_batches, serials_of, track_of, with_applied, withdrawn_products};
+ghost use Rattle.mv_repository.specs.Clauses.{IfOk, OnErr, OnOk, [], answer_after, answer_to, batch_key, counts_of, effect_of, found_of, history_of, is_recalled, is_withdrawn, items_from, joint_verdict, local_verdict, new_repository, option_copied, pack_state, product_of, recalled_batches, serials_of, kept_of, life_of, with_applied, withdrawn_products};
 
 use crate::entry::message_at;
 use crate::history::Places;
@@ -60,8 +60,7 @@ impl Drop for Repository {
 }
 
 impl Model for Repository {
-    ghost use Rattle.mv_repository.specs.Repository.{RepositoryState};
-    ghost use Rattle.mv_repository.specs.inside.Tables.{AreTablesOf, IsInquiriesOf};
+    ghost use Rattle.mv_repository.specs.Clauses.{AreTablesOf, IsInquiriesOf, RepositoryState};
 
     ghost Value = { RepositoryState };
 
@@ -121,7 +120,7 @@ impl Repository {
 
     /// What is kept of a pack: its first upload, its statuses in the order of stamps, and the entry by which it stands.
     fn kept(&self, key: &PackKey) -> (Option<u32>, &[u32], u32)
-        ensures { record { birth = result.0; statuses = result.1.now; by = result.2; blocks = [] } ≡ track_of key.now self.now.log }
+        ensures { record { birth = result.0; statuses = result.1.now; by = result.2; blocks = [] } ≡ kept_of (life_of key.now self.now.log) }
     {
         match self.tables.shelves.get(&key.gtin) {
             Some(shelf) => shelf.kept(shelf.find(self.log.as_slice(), &key.serial).slot),

@@ -1,7 +1,7 @@
 //! What is kept of each pack of one product, by serial numbers alone. This file knows no other product.
 
-ghost use Rattle.std.specs.Prelude.{◌≡◌, ◌<◌, ◌≤◌, ◌+◌, ◌==◌};
-ghost use Rattle.mv_repository.specs.Clauses.{AreShelfOf, AreSlots, AreStopsOf, IfOk, IsNamed, IsPut, IsRefreshed, IsSpot, IsUploadOf, OnErr, OnOk, Some, Writes, [], bare, bytes_eq, comes_first, newest_effect, entry_at, filter, get_or, is_counted, is_status_of, is_stop, kept_by, kept_in, length, no_shelf, no_slot, nothing_kept, serial_of, serials_uploaded, shelf_by, slice_get, stopped_product, stops_in, take, true, ℕ};
+ghost use Rattle.std.specs.Prelude.{◌≡◌, ◌<◌, ◌≤◌, ◌+◌, ◌==◌, ◌++◌, ◌∷◌};
+ghost use Rattle.mv_repository.specs.Clauses.{AreShelfOf, AreSlots, AreStopsOf, IfOk, IsNamed, IsPut, IsRefreshed, IsSpot, IsUploadOf, IfSome, List, lists, made_batch, option_and_then, OnErr, OnOk, Some, Writes, [], bytes_eq, comes_first, newest_effect, entry_at, filter, get_or, is_counted, is_status_of, is_stop, kept_by, kept_in, length, no_shelf, no_slot, nothing_kept, serial_of, serials_uploaded, shelf_by, slice_get, stopped_product, stops_in, take, true, ℕ};
 
 use crate::entry::comes_first;
 use crate::listing::Listing;
@@ -107,7 +107,7 @@ impl Shelf {
     /// What is kept of the pack that a slot stands for: the place of its first upload, its statuses, and the entry by which it
     /// stands.
     pub fn kept(&self, slot: Option<Slot>) -> (Option<u32>, &[u32], u32)
-        ensures { record { birth = result.0; statuses = result.1.now; by = result.2; blocks = [] } ≡ bare (kept_by self.now.tracks slot) }
+        ensures { record { birth = result.0; statuses = result.1.now; by = result.2; blocks = [] } ≡ record (kept_by self.now.tracks slot) { blocks = [] } }
     {
         match slot {
             Some(Slot::Made { place, .. }) => (Some(place), &[], place),
@@ -212,6 +212,27 @@ impl Shelf {
         })
     }
 
+    /// Puts the track of one more pack behind all, lists it under the batch of its upload, and gets room for one more slot; the number of the
+    /// track. Where memory is refused all is kept as it was; beyond 2^32 packs with a status there is want of memory.
+    fn push(&mut self, log: &[LogEntry], serial: &Serial, track: Track) -> Result<u32, AllocError>
+        ensures pushed { IfOk result (λ number. (number ≡ length self.old.table.names) × (0 < self.new.room)
+            × (self.new.table ≡ record self.old.table { names = self.old.table.names ++ serial.now ∷ [] }) × (self.new.tracks ≡ self.old.tracks ++ track ∷ [])) }
+        ensures listed { IfOk result (λ number. IfSome (option_and_then (λ place. made_batch (entry_at log.now place)) track.birth) (λ batch. lists self.new.listing batch number ≡ true)
+            × ((batch : List ℕ) (other : ℕ) → lists self.old.listing batch other ≡ true → lists self.new.listing batch other ≡ true)) }
+        ensures err { OnErr result (self.new ≡ record self.old { room = self.new.room }) }
+    {
+        let number = u32::try_from(self.names.len()).or(Err(AllocError))?;
+        self.index.reserve(1)?;
+        self.slots.reserve(1)?;
+        self.names.reserve(1)?;
+        self.tracks.reserve(1)?;
+        // All room is got: nothing fails from here on.
+        self.listing.note(log, track.birth, number);
+        self.names.push_reserved(serial.copy());
+        self.tracks.push_reserved(track);
+        Ok(number)
+    }
+
     /// Adds the newest entry, a status of a pack of the product; its effect where it stands. Where memory is refused nothing
     /// has changed; beyond 2^32 packs with a status there is want of memory.
     pub fn add_status(
@@ -232,21 +253,10 @@ impl Shelf {
             return self.tracks[number as usize].add_status(newest, pack);
         }
         let (birth, _, _) = self.kept(spot.slot);
-        let number = self.names.len();
-        if number > u32::MAX as usize {
-            return Err(AllocError);
-        }
-        self.index.reserve(1)?;
-        self.slots.reserve(1)?;
-        self.names.reserve(1)?;
-        self.tracks.reserve(1)?;
         let mut track = Track::new(alloc, birth);
         let effect = track.add_status(newest, pack)?;
-        // All room is got: nothing fails from here on.
-        self.names.push_reserved(pack.serial.copy());
-        self.tracks.push_reserved(track);
-        self.listing.note(newest.log, birth, number as u32);
-        self.put(spot, Slot::Own(number as u32));
+        let number = self.push(newest.log, &pack.serial, track)?;
+        self.put(spot, Slot::Own(number));
         Ok(effect)
     }
 

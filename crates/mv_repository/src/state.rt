@@ -2,7 +2,7 @@
 //! the pack stands then.
 
 ghost use Rattle.std.specs.Prelude.{◌≡◌, ◌+◌, length};
-ghost use Rattle.mv_repository.specs.Clauses.{change_in, effect_in, entry_at, fold, held_at, is_active, next_in, revert_effect, standing_in};
+ghost use Rattle.mv_repository.specs.Clauses.{change_in, effect_in, entry_at, fold, is_active, next_in, revert_effect, Some, held_of, known_at, message_in, option_map, standing_of};
 
 use crate::entry::{message_at, sender_at, stands_before};
 use crate::held::REVERT_SECONDS;
@@ -20,7 +20,7 @@ pub(crate) fn is_active(standing: Standing) -> bool
 
 /// How a pack stands that stands by the entry at a place.
 pub(crate) fn standing_by(log: &[LogEntry], by: u32) -> Standing
-    ensures { result ≡ standing_in (entry_at log.now by).entry.item }
+    ensures { result ≡ standing_of (message_in (entry_at log.now by).entry.item) }
 {
     match message_at(log, by as usize) {
         Some(Message::Status { to, .. }) => *to,
@@ -35,29 +35,22 @@ fn revert_effect(
     expiry: Expiry,
     batch: BatchStanding,
     sender: Party,
-    user: &str,
-    at: Moment,
+    reverter: &str,
+    moment: Moment,
 ) -> Effect
-    ensures { result ≡ revert_effect expiry batch (change_in (entry_at log.now by)) sender user.now at }
+    ensures { result ≡ revert_effect expiry batch (change_in (entry_at log.now by)) sender reverter.now moment }
 {
-    let Some(
-        Message::Status {
-            user: changer,
-            at: changed,
-            ..
-        },
-    ) = message_at(log, by as usize)
-    else {
+    let Some(Message::Status { user, at, .. }) = message_at(log, by as usize) else {
         return Effect::OtherUser;
     };
-    let changed_at = changed.seconds();
-    if sender_at(log, by as usize) != sender || changer.as_str() != user {
+    let changed_at = at.seconds();
+    if sender_at(log, by as usize) != sender || user.as_str() != reverter {
         Effect::OtherUser
-    } else if at.seconds() < changed_at {
+    } else if moment.seconds() < changed_at {
         Effect::TooEarly
-    } else if changed_at + REVERT_SECONDS < at.seconds() {
+    } else if changed_at + REVERT_SECONDS < moment.seconds() {
         Effect::TooLate
-    } else if expiry.expired_at(at) {
+    } else if expiry.expired_at(moment) {
         Effect::Expired
     } else if batch.recalled {
         Effect::Recalled
@@ -156,7 +149,7 @@ impl Basis<'_> {
 
 /// The pack that the upload at a place made, where it stands by the entry at another.
 pub(crate) fn held_at(log: &[LogEntry], birth: u32, by: u32) -> Option<Held>
-    ensures { result ≡ held_at log.now birth by }
+    ensures { result ≡ option_map held_of (known_at (entry_at log.now birth) (entry_at log.now by)) }
 {
     let Message::Upload {
         batch,

@@ -1,7 +1,7 @@
 //! The tables that a repository keeps of its log, and what one more entry does to them.
 
 ghost use Rattle.std.specs.Prelude.{◌≡◌, ◌+◌};
-ghost use Rattle.mv_repository.specs.Clauses.{AnEntry, AreTablesOf, IfOk, List, OnErr, OnOk, [], distinct_count, entry_at, filter, is_counted, is_same_pack, is_stop, length, newest_effect, take, track_of, true, uploaded_packs};
+ghost use Rattle.mv_repository.specs.Clauses.{AnEntry, AreTablesOf, IfOk, List, OnErr, OnOk, [], distinct_count, entry_at, filter, is_counted, is_same_pack, is_stop, length, newest_effect, take, kept_of, life_of, true, uploaded_packs};
 
 use crate::entry::{message_at, passes};
 use crate::shelf::{Counted, Shelf};
@@ -48,7 +48,7 @@ impl Tables {
     /// How many packs are counted, each once.
     pub fn count(&self, counted: Counted) -> usize
         ensures { (log : List AnEntry) → AreTablesOf log self.now
-            → result ≡ distinct_count is_same_pack (filter (λ pack. is_counted counted (track_of pack log)) (uploaded_packs log)) }
+            → result ≡ distinct_count is_same_pack (filter (λ pack. is_counted counted (kept_of (life_of pack log))) (uploaded_packs log)) }
     {
         prove!(self.named <= usize::MAX);
         let mut count = 0usize;

@@ -5,7 +5,7 @@ use Rattle.mv_index.specs.Hashes.{short_hash}
 use Rattle.mv_pack.specs.Code.{code_pieces}
 use Rattle.mv_repository.specs.declared.slots.Spot.{Spot}
 use Rattle.mv_repository.specs.Words.{ℕ, List, [], get_or, Bool, true, false, Option, Some, None, IfSome, bytes_eq, keys_of, lookup, option_and_then, option_map_or, is_some, not, Counted, Active, Every, Slot, Made, Own, list_any, Upload, Item, Carried, LogEntry, insert_key, pack_key, unwrap_or, Stop, OfBatch, OfProduct, length, map, AllByRecursion, IsDistinct}
-use Rattle.mv_repository.specs.inside.Track.{batch_at, comes_first, made_batch, Kept, Life, life_of, IsKept, IsTrack}
+use Rattle.mv_repository.specs.inside.Track.{comes_first, made_batch, Kept, Life, life_of, IsKept, IsTrack}
 use Rattle.mv_repository.specs.Bearing.{FirstStops, entry_at}
 use Rattle.mv_repository.specs.Repository.{serials_of}
 
@@ -85,10 +85,6 @@ pub record ListingTable : Type 0 where
   pub is_whole : Bool
   pub numbers : List (List ℕ × List ℕ)
 
--- a number is among these
-abbrev pub has_number : List ℕ → ℕ → Bool
-has_number numbers number = list_any (λ one. one == number) numbers
-
 -- what is kept of the packs of a product
 pub record ShelfTable : Type 0 where
   pub slots : List (List ℕ × Slot)
@@ -117,7 +113,7 @@ IsUploadOf _ gtin serials = ⊥
 
 -- a number may be of a batch: any may, where they are not all
 abbrev pub lists : ListingTable → List ℕ → ℕ → Bool
-lists listing batch number = not listing.is_whole || option_map_or (λ numbers. has_number numbers number) (lookup (bytes_eq batch) listing.numbers) false
+lists listing batch number = not listing.is_whole || option_map_or (λ numbers. list_any (λ one. one == number) numbers) (lookup (bytes_eq batch) listing.numbers) false
 
 -- a stop may bear on the pack of a track
 abbrev pub may_stop : ListingTable → Stop → ℕ → Bool
@@ -132,7 +128,7 @@ is_listed listing _ batch = true
 -- a pack is kept on a shelf as a log means it, and its track is listed under its batch, which is that of the upload that made it
 pub record IsPackOf (life : Life) (shelf : ShelfTable) (serial : List ℕ) : Type 0 where
   pub kept : IsKept life (kept_in shelf serial)
-  pub listed : IfSome (option_and_then (λ birth. made_batch birth.entry.item) life.birth) (λ batch. is_listed shelf.listing (lookup (bytes_eq serial) shelf.slots) batch ≡ true)
+  pub listed : IfSome (option_and_then made_batch life.birth) (λ batch. is_listed shelf.listing (lookup (bytes_eq serial) shelf.slots) batch ≡ true)
 
 -- a shelf is that of a product by a log: it keeps each pack, and has a slot for each serial number that the log names, in their order
 pub record IsShelfOf (log : List LogEntry) (gtin : List ℕ) (shelf : ShelfTable) : Type 0 where
@@ -168,7 +164,7 @@ pub record IsPut (log : List LogEntry) (stops : FirstStops) (gtin : List ℕ) (p
   pub changed : IsChanged serial old new
   pub later : comes_first log place (kept_in old serial).birth ≡ false → new ≡ old
   pub again : comes_first log place (kept_in old serial).birth ≡ true → IsAgain log stops gtin (Some place) (kept_in old serial) (kept_in new serial)
-  pub listed : comes_first log place (kept_in old serial).birth ≡ true → IfSome (batch_at log place) (λ batch. is_listed new.listing (lookup (bytes_eq serial) new.slots) batch ≡ true)
+  pub listed : comes_first log place (kept_in old serial).birth ≡ true → IfSome (made_batch (entry_at log place)) (λ batch. is_listed new.listing (lookup (bytes_eq serial) new.slots) batch ≡ true)
 
 -- a track was worked out again, or it stays
 abbrev pub IsRefreshed : List LogEntry → FirstStops → List ℕ → Bool → Kept → Kept → Type 0

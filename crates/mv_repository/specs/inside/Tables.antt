@@ -1,13 +1,13 @@
 -- What a repository keeps beside its log: the tables of its products and packs, and what it knows of its own queries.
-use Rattle.std.specs.Prelude.{◌≡◌, ◌<◌, ◌&&◌, ◌||◌, ◌==◌, if◌then◌else◌, unwrap_or}
-use Rattle.mv_repository.specs.Words.{ℕ, Bool, false, nat_eq, length, filter, last_or, bytes_eq, List, Option, Some, None, list_any, option_or, lookup, map_spare, set_spare, Master, Answer, Item, Receipt, Carried, LogEntry}
+use Rattle.std.specs.Prelude.{◌≡◌, ◌&&◌, ◌||◌, ◌==◌, if◌then◌else◌, unwrap_or}
+use Rattle.mv_repository.specs.Words.{ℕ, Bool, false, nat_eq, length, filter, last_or, bytes_eq, List, Option, Some, None, list_any, option_or, lookup, Master, Answer, Item, Receipt, Carried, LogEntry, option_map}
 use Rattle.mv_repository.specs.declared.inquiries.Inquiries.{Inquiries}
 use Rattle.mv_repository.specs.declared.inquiries.Inquiry.{Inquiry}
 use Rattle.mv_repository.specs.declared.tables.Tables.{Tables}
 use Rattle.mv_repository.specs.Order.{ordered}
 use Rattle.mv_repository.specs.Repository.{uploaded_packs}
 use Rattle.mv_repository.specs.inside.Shelf.{AreShelfOf, shelf_of}
-use Rattle.mv_repository.specs.inside.Track.{AreFound, AreStopsOf}
+use Rattle.mv_repository.specs.inside.Track.{AreStopsOf, place_of}
 use Rattle.mv_repository.specs.Verdict.{asked_parties, has_answered, has_finding, found_active, found_explained}
 
 -- an item is a master of a code
@@ -18,7 +18,7 @@ is_master gtin _ = false
 -- the tables are those of a log, and its uploads name so many packs, each as often as it is named
 pub record AreTablesOf (log : List LogEntry) (tables : Tables) : Type 0 where
   -- for each code the place of its last master by stamp
-  pub masters : AreFound bytes_eq is_master (λ test. last_or None (filter test (ordered log))) tables.masters.entries
+  pub masters : (gtin : List ℕ) → lookup (bytes_eq gtin) tables.masters.entries ≡ option_map place_of (last_or None (filter (λ placed. is_master gtin placed.entry.item) (ordered log)))
   pub stops : AreStopsOf log tables.stops
   pub shelves : (gtin : List ℕ) → AreShelfOf log gtin (shelf_of gtin tables.shelves.entries)
   pub named : tables.named ≡ length (uploaded_packs log)
@@ -40,17 +40,9 @@ inquiry_after (Carried k stamp (Answer asker q key found)) inquiry =
     record inquiry { active = inquiry.active || found_active found; explained = inquiry.explained || found_explained found }
 inquiry_after _ inquiry = inquiry
 
--- there is room for one more query, and for one more answer
-abbrev pub HasRoom : Inquiries → Type 0
-HasRoom known = (0 < map_spare known.inquiries) × (0 < set_spare known.replies)
-
 -- what a log says of a party's query
 abbrev pub inquiry_of : ℕ → List LogEntry → ℕ → Inquiry
-inquiry_of party log q = record {
-  asked = asked_parties party log q;
-  active = has_finding found_active party log q;
-  explained = has_finding found_explained party log q;
-}
+inquiry_of party log q = record { asked = asked_parties party log q; active = has_finding found_active party log q; explained = has_finding found_explained party log q }
 
 -- what is kept is what a log says of a party's queries, for each query and each other party; of a query that is not kept it says nothing
 pub record IsInquiriesOf (party : ℕ) (log : List LogEntry) (known : Inquiries) : Type 0 where

@@ -1,10 +1,10 @@
 -- By what a pack is worked out, and what is kept of it, by places in the log: the stops of its batch and of its product, what
 -- each of its statuses does, the entry by which it stands behind them, and what many of them do that stand one behind the other;
 -- and its history.
-use Rattle.std.specs.Prelude.{◌≡◌, if◌then◌else◌, ◌≤◌, ◌+◌, ◌%◌, ◌∷◌, ◌++◌}
-use Rattle.mv_repository.specs.Words.{ℕ, List, find, Bool, true, Option, Some, bytes_eq, flat_map, lookup, keys_of, option_map, option_map_or, insert_all, insert_key, Item, LogEntry, Stop, Stops, OfBatch, OfProduct, is_same_batch, [], take, None, option_and_then, BatchKey, Standing, Message, Status, Effect, BatchStanding, Held, batch_key, ⊤, length, drop, AllByRecursion, PARTIES_LIMIT, PartySet, map, fold, PackKey, Block, IfSome, slice_get}
+use Rattle.std.specs.Prelude.{◌≡◌, if◌then◌else◌, ◌≤◌, ◌+◌, ◌%◌, ◌∷◌, ◌++◌, ◌&&◌}
+use Rattle.mv_repository.specs.Words.{ℕ, List, find, Bool, true, Option, Some, bytes_eq, flat_map, lookup, keys_of, option_map, option_map_or, insert_all, insert_key, Item, LogEntry, Stop, Stops, OfBatch, OfProduct, is_same_batch, [], take, None, option_and_then, BatchKey, Standing, Message, Status, Effect, BatchStanding, batch_key, ⊤, length, drop, AllByRecursion, PARTIES_LIMIT, PartySet, map, fold, PackKey, Block, IfSome, slice_get}
 use Rattle.mv_repository.specs.Order.{Placed, passes, ordered, stands_before}
-use Rattle.mv_repository.specs.Pack.{is_recall_of, is_withdrawal_of, effect_of, KnownPack, KnownChange, is_active, is_done, change_effect, held_of}
+use Rattle.mv_repository.specs.Pack.{is_recall_of, is_withdrawal_of, effect_of, KnownPack, KnownChange, is_active, is_done, change_effect}
 use Rattle.mv_repository.specs.Repository.{recalled_in}
 use Rattle.mv_repository.specs.Bearing.{FirstStops, entry_at, first_stops, first_upload, message_in, pack_made_by, standing_at, statuses_of, withdrawn_in}
 use Rattle.mv_repository.specs.declared.state.Basis.{Basis}
@@ -36,13 +36,9 @@ abbrev pub stopped_product : Stop → List ℕ
 stopped_product (OfBatch batch) = batch.now.gtin
 stopped_product (OfProduct gtin) = gtin.now
 
--- a table of keys has the place of what is picked of each kind
-abbrev pub AreFound : {K : Type 0} → (K → K → Bool) → (K → Item → Bool) → ((Placed → Bool) → Option Placed) → List (K × ℕ) → Type 0
-AreFound {K} same is_of pick places = (key : K) → lookup (same key) places ≡ option_map place_of (pick (λ placed. is_of key placed.entry.item))
-
 -- a table of keys has the first of each kind, by stamp, and the keys, each once, in the order in which they arrived
 pub record AreFirstsOf {K : Type 0} (same : K → K → Bool) (is_of : K → Item → Bool) (keys_in : Item → List K) (log : List LogEntry) (places : List (K × ℕ)) : Type 0 where
-  pub found : AreFound same is_of (λ test. find test (ordered log)) places
+  pub found : (key : K) → lookup (same key) places ≡ option_map place_of (find (λ placed. is_of key placed.entry.item) (ordered log))
   pub keys : keys_of places ≡ insert_all same [] (flat_map (λ entry. keys_in entry.item) log)
 
 -- the tables are those of a log
@@ -54,30 +50,20 @@ pub record AreStopsOf (log : List LogEntry) (tables : Stops) : Type 0 where
 abbrev pub comes_first : List LogEntry → ℕ → Option ℕ → Bool
 comes_first log new first = option_map_or (λ one. passes (entry_at log new) (entry_at log one)) first true
 
--- the earlier of the first so far and the newest entry, by their places
-abbrev pub earlier_place : List LogEntry → ℕ → Option ℕ → Option ℕ
-earlier_place log new first = if comes_first log new first then Some new else first
-
--- a table of keys once the newest entry, which is under one of them, is added to it
+-- a table of keys once the newest entry, which is under one of them, is added to it: the earlier of it and the first so far stays
 pub record HasFirst {K : Type 0} (same : K → K → Bool) (log : List LogEntry) (new : ℕ) (key : K) (before after : List (K × ℕ)) : Type 0 where
   pub places : (other : K) → lookup (same other) after
-      ≡ (if same key other then earlier_place log new (lookup (same key) before) else lookup (same other) before)
+      ≡ (if same key other && comes_first log new (lookup (same key) before) then Some new else lookup (same other) before)
   pub keys : keys_of after ≡ insert_key same (keys_of before) key
 
--- the batch of the packs that an item uploads, and that the entry at a place of a log does
-abbrev pub made_batch : Item → Option (List ℕ)
-made_batch item = option_map (λ (made : KnownPack). made.batch) (pack_made_by item)
+-- the batch of the packs that an entry uploads
+abbrev pub made_batch : Placed → Option (List ℕ)
+made_batch placed = option_map (λ (made : KnownPack). made.batch) (pack_made_by placed.entry.item)
 
-abbrev pub batch_at : List LogEntry → ℕ → Option (List ℕ)
-batch_at log place = made_batch (entry_at log place).entry.item
-
--- how a pack stands that stands by an item: as a status asked, else active
+-- how a pack stands that stands by a message: as a status asked, else active
 abbrev pub standing_of : Option Message → Standing
 standing_of (Some (Status key to user at)) = to
 standing_of _ = standings.Active
-
-abbrev pub standing_in : Item → Standing
-standing_in item = standing_of (message_in item)
 
 -- what took it from active, where it stands by a status of a sender at a place of the log
 abbrev pub change_of : ℕ → ℕ → Message → Option KnownChange
@@ -91,12 +77,8 @@ change_in placed = option_and_then (change_of placed.place placed.entry.sender) 
 abbrev pub known_at : Placed → Placed → Option KnownPack
 known_at birth by =
     option_map
-    (λ (made : KnownPack). record made { standing = standing_in by.entry.item; change = change_in by })
+    (λ (made : KnownPack). record made { standing = standing_of (message_in by.entry.item); change = change_in by })
     (pack_made_by birth.entry.item)
-
--- the same by places in a log, as a repository shows it
-abbrev pub held_at : List LogEntry → ℕ → ℕ → Option Held
-held_at log birth by = option_map held_of (known_at (entry_at log birth) (entry_at log by))
 
 -- the effect of an item on a pack that is held, where it is a status of it
 abbrev pub effect_from : (BatchKey → BatchStanding) → ℕ → Option Message → List ℕ → KnownPack → Effect
@@ -121,7 +103,7 @@ abbrev pub next_by : FirstStops → List ℕ → Option Placed → Placed → Pl
 next_by stops gtin None by placed = by
 next_by stops gtin (Some birth) by placed =
     if is_done (effect_on stops gtin birth by placed)
-    then (if is_active (standing_in placed.entry.item) then birth else placed)
+    then (if is_active (standing_of (message_in placed.entry.item)) then birth else placed)
     else by
 
 -- the same by places in a log
@@ -140,7 +122,7 @@ next_in basis = next_place basis.log.now (stops_in basis.log.now basis.stops.now
 -- an entry is no revert, or its sender may be among these: a set seems to have all whose numbers differ from that of one by the
 -- greatest number of parties
 abbrev pub IsCovered : PartySet → Placed → Type 0
-IsCovered senders placed = is_active (standing_in placed.entry.item) ≡ true → has_party senders (placed.entry.sender % PARTIES_LIMIT) ≡ true
+IsCovered senders placed = is_active (standing_of (message_in placed.entry.item)) ≡ true → has_party senders (placed.entry.sender % PARTIES_LIMIT) ≡ true
 
 -- What is known of a block by the statuses in it: what they leave of a pack that comes to them active, and whose reverts are
 -- among them. Of too many senders is right, of too few is not.
@@ -193,10 +175,6 @@ pub record Kept : Type 0 where
   pub by : ℕ  -- the entry by which it stands behind all
   pub blocks : List Block  -- what many statuses do, as far as that is known
 
--- the same but for the blocks
-abbrev pub bare : Kept → Kept
-bare kept = record kept { blocks = [] }
-
 -- what is to be kept of a pack, but for the blocks
 abbrev pub kept_of : Life → Kept
 kept_of life = record {
@@ -206,12 +184,9 @@ kept_of life = record {
   blocks = [];
 }
 
-abbrev pub track_of : PackKey → List LogEntry → Kept
-track_of pack log = kept_of (life_of pack log)
-
 -- a pack is kept as a log means it, and its blocks are those of its first statuses
 pub record IsKept (life : Life) (kept : Kept) : Type 0 where
-  pub bare : bare kept ≡ kept_of life
+  pub bare : record kept { blocks = [] } ≡ kept_of life
   pub blocks : IfSome life.birth (λ birth. AreBlocks (λ placed. placed) life.next birth birth kept.blocks life.statuses)
 
 -- a pack is worked out, by places in a log
@@ -224,11 +199,9 @@ abbrev pub IsAt : List LogEntry → Placed → Type 0
 IsAt log placed = slice_get log placed.place ≡ Some placed.entry
 
 -- so is each of a history
-pub record AreAt (log : List LogEntry) (history : PackHistory) : Type 0 where
-  pub upload : IfSome history.upload (IsAt log)
-  pub statuses : AllByRecursion (IsAt log) history.statuses
-  pub recall : IfSome history.recall (IsAt log)
-  pub withdrawal : IfSome history.withdrawal (IsAt log)
+abbrev pub AreAt : List LogEntry → PackHistory → Type 0
+AreAt log history =
+    IfSome history.upload (IsAt log) × AllByRecursion (IsAt log) history.statuses × IfSome history.recall (IsAt log) × IfSome history.withdrawal (IsAt log)
 
 -- a history by its places in a log
 abbrev pub history_at : Places → PackHistory

@@ -1,5 +1,5 @@
 -- The block in which the status stands is worked out again. One block further; from where the pack stands as it did, all is as it was.
-use Rattle.mv_repository.proofs.Lemmas.{◌≡◌, ◌∙◌, get_or, refl, rules, arith, entry_at, next_in, take-append-drop, take_all, common_steps, fold-cut, pass-after, pass-behind, pass-front, renewed}
+use Rattle.mv_repository.proofs.Lemmas.{◌≡◌, ◌∙◌, get_or, refl, rules, arith, entry_at, next_in, take-append-drop, take_all, common_steps, fold-cut, late_within, pass-after, pass-behind, pass-front, renewed}
 use Rattle.mv_repository.proofs.blocks.pass_on.Goals as goal
 
 pub loop-number-init : goal.loop-number-init
@@ -16,7 +16,16 @@ pub returns-then-last-before-clause-blocks : goal.returns-then-last-before-claus
 returns-then-last-before-clause-blocks c = search (rules, take-append-drop (c.loop-number.number) (c.loop-number.blocks.items))
 
 pub loop-number-preserved : goal.loop-number-preserved
-loop-number-preserved c = grind (arith, common_steps, fold-cut, pass-after, pass-behind, pass-front)
+loop-number-preserved c = grind (arith, common_steps, fold-cut, late_within, pass-after, pass-behind, pass-front)
 
 pub returns-clause-blocks : goal.returns-clause-blocks
 returns-clause-blocks c = search (rules, take_all)
+
+pub pass-last-requires : goal.pass-last-requires
+pass-last-requires c = grind (arith, common_steps, late_within)
+
+pub overflow_add-old : goal.overflow_add-old
+overflow_add-old c = grind (arith, common_steps, late_within)
+
+pub split_at-requires-in-loop-number : goal.split_at-requires-in-loop-number
+split_at-requires-in-loop-number c = grind (arith, common_steps, late_within)

@@ -1,6 +1,5 @@
 -- A status that is the last changes no block.
-use Rattle.mv_repository.proofs.Lemmas.{◌∙◌, ◌+◌, ◌≡◌, List, fold, length, take, ℕ, ap, arith, common_steps, get_or, without, effect_in, entry_at, next_in, refl, last-blocks, late-before, late-fold, late-front}
-use Rattle.mv_repository.proofs.Words.{elements}
+use Rattle.mv_repository.proofs.Lemmas.{◌∙◌, ◌+◌, ◌≡◌, List, fold, length, take, ℕ, ap, arith, common_steps, get_or, without, effect_in, entry_at, next_in, refl, last-blocks, late-before, late-fold, late-front, elements}
 use Rattle.mv_repository.proofs.blocks.put_late.Goals as goal
 
 pub returns-then-at-own-clause-blocks : goal.returns-then-at-own-clause-blocks
@@ -29,3 +28,6 @@ returns c =
       blocks = grind (arith, common_steps, late-front (entry_at c.args.basis.now.log.now) (next_in c.args.basis.now) c.args.basis.now.birth (λ n. refl) c.args.blocks.now.items c.args.own.now c.args.at c.cut_at-cut.result c.requires.within c.cut_at-cut.ensures.at cut);
       by = grind (arith, common_steps, late-fold);
     }
+
+pub pass_on-requires-clause-cut : goal.pass_on-requires-clause-cut
+pass_on-requires-clause-cut c = c.cut_at-cut.ensures.cut (without c.args.own.now c.args.at) c.requires.blocks

@@ -1,27 +1,23 @@
 -- The set of the batch has the number, and all that it had.
-use Rattle.mv_repository.proofs.Words.{◌≡◌, ℕ, Bool, List, ListingTable, HashSet, IfSome, Option, Some, arith, bytes_eq, cond, has_number, lists, lookup, map, nat_tests, rules, same_text, subst, sym, true}
-use Rattle.mv_repository.proofs.SerialLemmas.{is_in, listed_in}
+use Rattle.mv_repository.proofs.Words.{◌≡◌, ℕ, Bool, List, ListingTable, HashSet, IfSome, Option, Some, arith, bytes_eq, cond, lists, lookup, nat_tests, rules, same_text, subst, sym, true, list_any, ◌==◌}
+use Rattle.mv_repository.proofs.SerialLemmas.{is_in, listed_in, numbers_in}
 use Rattle.mv_repository.proofs.listing.Listing.note.Goals as goal
-
--- the listing of these sets
-abbrev listing : {S : Type 0} → Bool → List (List ℕ × HashSet ℕ S) → ListingTable
-listing is_whole sets = record { is_whole = is_whole; numbers = map (λ entry. (entry.0, entry.1.keys)) sets }
 
 -- a set is written under a batch, which has all that was there
 stays-in : {S : Type 0} → (old new : List (List ℕ × HashSet ℕ S)) (batch : List ℕ) (was now : HashSet ℕ S)
     → ((other : List ℕ) → lookup (bytes_eq other) new ≡ cond (bytes_eq batch other) (Some now) (lookup (bytes_eq other) old))
-    → IfSome (lookup (bytes_eq batch) old) (λ set. set ≡ was) → ((one : ℕ) → has_number was.keys one ≡ true → has_number now.keys one ≡ true)
+    → IfSome (lookup (bytes_eq batch) old) (λ set. set ≡ was) → ((one : ℕ) → list_any (λ k. k == one) was.keys ≡ true → list_any (λ k. k == one) now.keys ≡ true)
     → (other : List ℕ) (one : ℕ) → is_in old other one ≡ true → is_in new other one ≡ true
 stays-in old new batch was now looks there more other one h = grind (arith, nat_tests, looks other, more one, same_text batch other)
 
 -- so the listing has all that it had
 lists-stay : {S : Type 0} → (is_whole : Bool) (old new : List (List ℕ × HashSet ℕ S)) (other : List ℕ) (one : ℕ) → (is_in old other one ≡ true → is_in new other one ≡ true)
-    → lists (listing is_whole old) other one ≡ true → lists (listing is_whole new) other one ≡ true
+    → lists (record { is_whole = is_whole; numbers = numbers_in old }) other one ≡ true → lists (record { is_whole = is_whole; numbers = numbers_in new }) other one ≡ true
 lists-stay is_whole old new other one more h = grind (arith, nat_tests, listed_in)
 
 -- and the number under its batch
 lists-now : {S : Type 0} → (is_whole : Bool) (sets : List (List ℕ × HashSet ℕ S)) (found : Option (List ℕ)) (batch : List ℕ) (set : HashSet ℕ S) (number : ℕ) → found ≡ Some batch
-    → lookup (bytes_eq batch) sets ≡ Some set → has_number set.keys number ≡ true → IfSome found (λ one. lists (listing is_whole sets) one number ≡ true)
+    → lookup (bytes_eq batch) sets ≡ Some set → list_any (λ k. k == number) set.keys ≡ true → IfSome found (λ one. lists (record { is_whole = is_whole; numbers = numbers_in sets }) one number ≡ true)
 lists-now is_whole sets found batch set number e there has = grind (arith, nat_tests, listed_in)
 
 pub returns-clause-added : goal.returns-clause-added

@@ -1,6 +1,5 @@
 -- The entry that is added stands behind the log that was.
-use Rattle.mv_repository.proofs.Lemmas.{◌≡◌, ◌+◌, ◌∙◌, ap, subst, sym, ℕ, List, LogEntry, arith, common_steps, effect_of, get_or, get_or_push, length, longer, nat_tests, no_entry, take, take_at}
-use Rattle.mv_repository.proofs.Words.{AreTablesOf, IsInquiriesOf}
+use Rattle.mv_repository.proofs.Lemmas.{◌≡◌, ◌+◌, ◌∙◌, ap, subst, sym, ℕ, List, LogEntry, arith, common_steps, effect_of, get_or, get_or_push, length, longer, nat_tests, no_entry, take, take_at, AreTablesOf, IsInquiriesOf}
 use Rattle.mv_repository.proofs.repository.Repository.enter.Goals as goal
 
 effect-newest : (old whole : List LogEntry) (entry : LogEntry) (place : ℕ) → whole ≡ longer old entry → place ≡ length old
@@ -20,3 +19,9 @@ invariant_of-self-in-Err c =
 
 pub returns-in-Ok-add-clause-effect : goal.returns-in-Ok-add-clause-effect
 returns-in-Ok-add-clause-effect c = grind (arith, common_steps, effect-newest)
+
+pub add-requires-clause-tables : goal.add-requires-clause-tables
+add-requires-clause-tables c = grind (arith, common_steps)
+
+pub returns-in-Err-clause-err : goal.returns-in-Err-clause-err
+returns-in-Err-clause-err c = grind (arith, common_steps)

@@ -1,5 +1,5 @@
 -- Each place is that of the first of its kind.
-use Rattle.mv_repository.proofs.Lemmas.{◌≡◌, List, LogEntry, ap, sym, subst, ◌∙◌, AreAt, AreStopsOf, history_of, pack_state, rules, track_of, history-at, lent-places}
+use Rattle.mv_repository.proofs.Lemmas.{◌≡◌, List, LogEntry, ap, sym, subst, ◌∙◌, AreAt, AreStopsOf, history_of, pack_state, rules, kept_of, life_of, history-at, lent-places}
 use Rattle.mv_repository.proofs.repository.Repository.history.Goals as goal
 
 pub returns : goal.returns
@@ -8,7 +8,7 @@ returns c =
     let same : c.args.self.now.log ≡ log = search rules in
     lent-places log c.args.key.now c.self.inside.tables.stops _ _ _ c.pack.result _ _
     (subst (λ (log : List LogEntry). AreStopsOf log c.self.inside.tables.stops) (sym c.as_slice.ensures.value) c.self.invariant.0.stops)
-    (c.kept-upload.ensures ∙ ap (track_of c.args.key.now) same) (c.pack.ensures ∙ ap (pack_state c.args.key.now) same) (search rules) (search rules)
+    (c.kept-upload.ensures ∙ ap (λ (log : List LogEntry). kept_of (life_of c.args.key.now log)) same) (c.pack.ensures ∙ ap (pack_state c.args.key.now) same) (search rules) (search rules)
     ∙ ap (history_of c.args.key.now) (sym same)
 
 pub invariant_of-result : goal.invariant_of-result

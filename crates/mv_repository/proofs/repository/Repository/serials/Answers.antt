@@ -1,6 +1,5 @@
 -- The serial numbers of a product have the slots of its shelf, if it has one.
-use Rattle.mv_repository.proofs.Lemmas.{◌≡◌, ◌∙◌, AreShelfOf, IsNamed, List, LogEntry, SlotTable, arith, common_steps, keys_keyed, map, rules, serial_of, serials_of, shelf_of, subst, sym}
-use Rattle.mv_repository.proofs.Words.{AllByRecursion}
+use Rattle.mv_repository.proofs.Lemmas.{◌≡◌, ◌∙◌, AreShelfOf, IsNamed, List, LogEntry, SlotTable, arith, common_steps, keys_keyed, map, rules, serial_of, serials_of, shelf_of, subst, sym, AllByRecursion}
 use Rattle.mv_repository.proofs.repository.Repository.serials.Goals as goal
 
 pub returns-in-Some : goal.returns-in-Some

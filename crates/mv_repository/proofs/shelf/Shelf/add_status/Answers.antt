@@ -1,6 +1,5 @@
 -- The pack has the status, and no other track is touched.
-use Rattle.mv_repository.proofs.Lemmas.{◌≡◌, ◌++◌, ◌∷◌, AreSlots, IfSome, IsChanged, IsKept, IsShelfOf, IsSpot, IsWritten, Kept, List, LogEntry, Option, Own, ShelfParts, ShelfTable, Slot, SlotTable, Some, Writes, [], ap, arith, batch-kept, batch-noted, batch_at, bytes_eq, found-own, get_or, get_or_append_left, get_or_push, is-changed, is_listed, keyed, kept_by, kept_in, length, life_batch, life_of, lists, lookup, map_err, nothing_kept, on_map, option_and_then, own-changed, own-kept, own-set, own-there, own-within, refl, shelf-same, shelf-seen, status-others, subst, sym, take, true, written-own, ℕ, ◌∙◌}
-use Rattle.mv_repository.proofs.Words.{length-set, set, set-get_or}
+use Rattle.mv_repository.proofs.Lemmas.{◌≡◌, ◌++◌, ◌∷◌, AreSlots, IfSome, IsChanged, IsKept, IsShelfOf, IsWritten, Kept, List, LogEntry, Option, Own, ShelfTable, Slot, SlotTable, Some, Writes, [], ap, arith, batch-kept, batch-noted, bytes_eq, entry_at, made_batch, on_err, shelf_by, found-own, get_or, get_or_append_left, get_or_push, is-changed, is_listed, keyed, kept_by, kept_in, length, life_batch, life_of, lists, lookup, map_err, nothing_kept, on_map, option_and_then, own-changed, own-kept, own-set, own-there, own-within, refl, shelf-same, shelf-seen, status-others, subst, sym, take, true, written-own, ℕ, ◌∙◌, entry_at, made_batch, ListingTable, length-set, set, set-get_or}
 use Rattle.mv_repository.proofs.shelf.Shelf.add_status.Goals.{In-Some-Own}
 use Rattle.mv_repository.proofs.shelf.Shelf.add_status.Goals as goal
 
@@ -67,65 +66,64 @@ module _ (c : goal.After-put) where
   abbrev serial : List ℕ
   serial = c.args.pack.now.serial
 
-  abbrev slots : SlotTable
-  slots = record { hashes = c.self.inside.index.hashes; slots = c.self.inside.slots.items; names = c.self.inside.names.items }
+  abbrev names : List (List ℕ)
+  names = c.args.self.now.table.names
 
   abbrev was : ShelfTable
-  was = record { slots = keyed log slots.names slots.slots; tracks = c.self.inside.tracks.items; listing = c.self.inside.listing }
+  was = shelf_by log c.args.self.now
 
   abbrev new : ShelfTable
-  new = record { slots = keyed log c.put.new.self.table.names c.put.new.self.table.slots; tracks = was.tracks ++ c.add_status-2.new.self ∷ []; listing = c.note.new.self }
+  new = shelf_by log c.put.new.self
 
-  are : AreSlots log slots × IsShelfOf (take c.args.newest.now.place log) c.args.pack.now.gtin was
-  are = shelf-seen log c.args.newest.now.place c.args.pack.now.gtin c.self.view_is c.requires.shelf
+  are : AreSlots log c.args.self.now.table × IsShelfOf (take c.args.newest.now.place log) c.args.pack.now.gtin was
+  are = shelf-seen log c.args.newest.now.place c.args.pack.now.gtin refl c.requires.shelf
 
-  number : c.len-number.result ≡ length slots.names
-  number = grind arith
+  count : length names ≡ length was.tracks
+  count = (λ i. length (sym c.self.view_is i).table.names) ∙ c.self.invariant.1 ∙ (λ i. length (c.self.view_is i).tracks)
 
-  written : IsWritten log slots c.put.new.self.table serial (Own (length slots.names))
+  written : IsWritten log c.args.self.now.table c.put.new.self.table serial (Own (length names))
   written =
-      let names : c.push_reserved.new.self.items ≡ slots.names ++ serial ∷ [] = c.push_reserved.ensures.items ∙ (λ i. c.reserve-3.ensures.items i ++ c.copy.ensures i ∷ []) in
-      written-own log slots are.0 serial c.find-spot.result c.put.new.self.table (subst (λ (parts : ShelfParts). IsSpot log parts.table serial c.find-spot.result) (sym c.self.view_is) c.find-spot.ensures)
+      written-own log c.args.self.now.table are.0 serial c.find-spot.result c.put.new.self.table c.find-spot.ensures
       (subst (λ (pair : ℕ × SlotTable). Writes c.find-spot.result (Own pair.0) pair.1 c.put.new.self.table)
-      (λ i. (number i, record { hashes = c.reserve.ensures.hashes i; slots = c.reserve-2.ensures.items i; names = names i })) c.put.ensures.written)
+      (λ i. (c.in_ok-number.ensures.pushed.0 i, c.in_ok-number.ensures.pushed.2 i)) c.put.ensures.written)
 
-  own : lookup (bytes_eq serial) new.slots ≡ Some (Own (length slots.names))
-  own = found-own serial (Own (length slots.names)) was new written.1
+  own : lookup (bytes_eq serial) new.slots ≡ Some (Own (length names))
+  own = found-own serial (Own (length names)) was new written.1
+
+  tracks : new.tracks ≡ was.tracks ++ c.add_status-2.new.self ∷ []
+  tracks = (λ i. (c.put.ensures.others i).tracks) ∙ c.in_ok-number.ensures.pushed.3
 
   now : kept_in new serial ≡ c.add_status-2.new.self
-  now = ap (kept_by new.tracks) own ∙ ap (λ (n : ℕ). get_or new.tracks n nothing_kept) c.self.invariant.1 ∙ get_or_push was.tracks c.add_status-2.new.self nothing_kept (length was.tracks) refl
+  now = ap (kept_by new.tracks) own ∙ (λ i. get_or (tracks i) (count i) nothing_kept) ∙ get_or_push was.tracks c.add_status-2.new.self nothing_kept (length was.tracks) refl
 
-  -- the upload of the pack is the one that was kept
-  birth_is : c.kept-birth.result.0 ≡ (kept_in was serial).birth
-  birth_is = grind arith
-
-  -- its track is listed under the batch of that upload
+  -- its track is listed under the batch of its upload
   listed : IfSome (life_batch (life_of c.args.pack.now log)) (λ batch. is_listed new.listing (lookup (bytes_eq serial) new.slots) batch ≡ true)
   listed =
       subst (λ (slot : Option Slot). IfSome (life_batch (life_of c.args.pack.now log)) (λ batch. is_listed new.listing slot batch ≡ true)) (sym own)
-      (subst (λ (n : ℕ). IfSome (life_batch (life_of c.args.pack.now log)) (λ batch. lists new.listing batch n ≡ true)) number
-      (subst (λ (batch : Option (List ℕ)). IfSome batch (λ one. lists new.listing one c.len-number.result ≡ true))
-      (ap (option_and_then (batch_at log)) (birth_is ∙ ap (λ (k : Kept). k.birth) (are.1.packs serial).kept.bare) ∙ batch-noted log c.args.newest.now.place c.args.pack.now c.args.newest.now.last c.requires.own)
-      c.note.ensures.added))
+      (subst (λ (pair : ℕ × ListingTable). IfSome (life_batch (life_of c.args.pack.now log)) (λ batch. lists pair.1 batch pair.0 ≡ true)) (λ i. (c.in_ok-number.ensures.pushed.0 i, (sym c.put.ensures.others i).listing))
+      (subst (λ (batch : Option (List ℕ)). IfSome batch (λ one. lists c.push.new.self.listing one c.in_ok-number.number ≡ true))
+      (ap (λ (k : Kept). option_and_then (λ place. made_batch (entry_at log place)) k.birth) c.in_ok-effect.ensures.ok.bare ∙ batch-noted log c.args.pack.now) c.in_ok-number.ensures.listed.0))
 
   changed : IsChanged serial was new
-  changed = is-changed serial (Own (length slots.names)) was new written.1
-      (λ other one e is. grind (arith, get_or_append_left, (own-there log slots are.0 other one is).0, c.self.invariant.1)) c.note.ensures.kept
+  changed = is-changed serial (Own (length names)) was new written.1
+      (λ other one e is. ap (λ (l : List Kept). get_or l one nothing_kept) tracks ∙ get_or_append_left was.tracks _ nothing_kept one (omega (arith, (own-there log c.args.self.now.table are.0 other one is).0, count)))
+      (λ batch one h. ap (λ (l : ListingTable). lists l batch one) (λ i. (c.put.ensures.others i).listing) ∙ c.in_ok-number.ensures.listed.1 batch one h)
 
 pub add_status-requires-2-clause-kept : goal.add_status-requires-2-clause-kept
 add_status-requires-2-clause-kept c =
-    let whole = c.args.newest.now.log.now in
-    let table : SlotTable = record { hashes = c.self.inside.index.hashes; slots = c.self.inside.slots.items; names = c.self.inside.names.items } in
-    let seen = shelf-seen whole c.args.newest.now.place c.args.pack.now.gtin c.self.view_is c.requires.shelf in
-    let made : kept_by c.self.inside.tracks.items (lookup (bytes_eq c.args.pack.now.serial) (keyed whole table.names table.slots)) ≡ c.new-track.result = grind arith in
-    subst (IsKept (life_of c.args.pack.now (take c.args.newest.now.place whole))) made (seen.1.packs c.args.pack.now.serial).kept
+    let slots = c.args.self.now.table in
+    let made : kept_by c.args.self.now.tracks (lookup (bytes_eq c.args.pack.now.serial) (keyed c.args.newest.now.log.now slots.names slots.slots)) ≡ c.new-track.result = grind arith in
+    subst (IsKept (life_of c.args.pack.now (take c.args.newest.now.place c.args.newest.now.log.now))) made
+    ((shelf-seen c.args.newest.now.log.now c.args.newest.now.place c.args.pack.now.gtin refl c.requires.shelf).1.packs c.args.pack.now.serial).kept
+
+pub returns-in_err-number-clause-err : goal.returns-in_err-number-clause-err
+returns-in_err-number-clause-err c =
+    let same = c.in_err-number.ensures.err in
+    on_err c.from_residual-in_err-number.result _ (shelf-same _ _ c.args.self.now c.push.new.self (λ i. (same i).table) (λ i. (same i).tracks) (λ i. (same i).listing) c.requires.shelf)
 
 pub returns-clause-ok : goal.returns-clause-ok
-returns-clause-ok c =
-    let tracked : c.put.new.self.tracks ≡ (new c).tracks = (λ i. (c.put.ensures.others i).tracks) ∙ c.push_reserved-2.ensures.items ∙ ap (λ (l : List Kept). l ++ c.add_status-2.new.self ∷ []) c.reserve-4.ensures.items in
-    record {
-      slots = (written c).0;
-      shelf = subst (IsShelfOf (log c) c.args.pack.now.gtin) (sym (λ i. record (new c) { tracks = tracked i; listing = (c.put.ensures.others i).listing }))
-          (status-others (log c) c.args.newest.now.place c.args.pack.now c.args.newest.now.last c.requires.own (was c) (new c) (are c).1 (changed c)
-          (record { kept = subst (IsKept (life_of c.args.pack.now (log c))) (sym (now c)) c.in_ok-effect.ensures.ok; listed = listed c }));
-    }
+returns-clause-ok c = record {
+  slots = (written c).0;
+  shelf = status-others (log c) c.args.newest.now.place c.args.pack.now c.args.newest.now.last c.requires.own (was c) (new c) (are c).1 (changed c)
+      (record { kept = subst (IsKept (life_of c.args.pack.now (log c))) (sym (now c)) c.in_ok-effect.ensures.ok; listed = listed c });
+}

@@ -1,5 +1,5 @@
 -- One serial number more.
-use Rattle.mv_repository.proofs.Lemmas.{◌≡◌, ◌≤◌, ◌+◌, ◌∷◌, AreSlots, ArePacksOf, Bool, IsShelfOf, SlotTable, keyed, shelf-seen, Kept, List, Some, [], ap, arith, bytes_eq, comes_first, cond, fold, fold-append, get_or, get_or_default, insert_key, kept_in, length, log-length, log-split, nat_tests, new-more, no_entry, refl, rules, serials-at, serials_of, shelf_by, slice_get, slice_get-get_or, subst, sym, take, take_all, take_more, text-self, upload-adds, upload-all, upload-names, upload-serials, ℕ, ◌∙◌}
+use Rattle.mv_repository.proofs.Lemmas.{◌≡◌, ◌+◌, ◌∷◌, AreSlots, ArePacksOf, IsShelfOf, SlotTable, keyed, shelf-seen, shelf-same, on_err, Kept, List, Some, [], ap, arith, bytes_eq, comes_first, cond, fold, fold-append, get_or, get_or_default, insert_key, kept_in, length, log-length, log-split, nat_tests, new-more, no_entry, refl, rules, serials-at, serials_of, shelf_by, slice_get, slice_get-get_or, subst, sym, take, take_all, take_more, text-self, upload-adds, upload-all, upload-names, upload-serials, ℕ, ◌∙◌, common_steps}
 use Rattle.mv_repository.proofs.shelf.Shelf.add_upload.Goals as goal
 
 pub loop-index-init : goal.loop-index-init
@@ -39,11 +39,8 @@ loop-index-preserved c =
           at c.loop-index.new c.put_upload-is_first.result c.loop-index-test.true
           (done.first ∙ ap (λ (one : List ℕ). comes_first whole place (kept_in old one).birth) serial ∙ ap (λ (k : Kept). comes_first whole place k.birth) (c.loop-index.invariant.packs (get_or c.args.serials.now at [])).kept.bare)
           c.loop-index.invariant.new;
-      least = subst (λ (n : ℕ). n ≤ at + 1) (sym counted) (grow c.put_upload-is_first.result c.loop-index.new at c.loop-index.invariant.least);
+      least = grind (arith, nat_tests, counted, c.loop-index.invariant.least);
     }
-  where
-    grow : (b : Bool) (count at : ℕ) → count ≤ at → cond b (count + 1) count ≤ at + 1
-    grow b count at l = grind (arith, nat_tests)
 
 pub returns-clause-ok : goal.returns-clause-ok
 returns-clause-ok c =
@@ -62,3 +59,13 @@ returns-clause-ok c =
             (upload-serials c.args.gtin.now c.args.gtin.now c.args.serials.now (get_or whole place no_entry).item upload ∙ ap (λ b. cond b c.args.serials.now []) (text-self c.args.gtin.now)));
       };
     }
+
+pub returns-clause-effect : goal.returns-clause-effect
+returns-clause-effect c = grind (arith, common_steps)
+
+-- where memory is refused, all is kept as it was
+pub returns-in_err-reserve-clause-err : goal.returns-in_err-reserve-clause-err
+returns-in_err-reserve-clause-err c = on_err c.from_residual.result _ (shelf-same _ _ c.args.self.now _ ((λ i. record { hashes = c.reserve.ensures.hashes i; slots = c.self.inside.slots.items; names = c.self.inside.names.items }) ∙ (λ i. (c.self.view_is i).table)) (λ i. (c.self.view_is i).tracks) (λ i. (c.self.view_is i).listing) c.requires.shelf)
+
+pub returns-in_err-reserve-2-clause-err : goal.returns-in_err-reserve-2-clause-err
+returns-in_err-reserve-2-clause-err c = on_err c.from_residual-in_err-reserve-2.result _ (shelf-same _ _ c.args.self.now _ ((λ i. record { hashes = c.reserve.ensures.hashes i; slots = c.reserve-2.ensures.items i; names = c.self.inside.names.items }) ∙ (λ i. (c.self.view_is i).table)) (λ i. (c.self.view_is i).tracks) (λ i. (c.self.view_is i).listing) c.requires.shelf)

@@ -1,6 +1,5 @@
 -- The pack has a slot, and the other packs keep theirs.
-use Rattle.mv_repository.proofs.Lemmas.{◌≡◌, AreSlots, IfSome, IsAgain, IsPut, IsWritten, Kept, List, LogEntry, Made, Option, Own, ShelfParts, ShelfTable, Slot, SlotTable, Some, [], ap, arith, batch_at, bytes_eq, comes_first, entry_at, false, found-own, get_or_from_slice_get, is-changed, is_listed, keyed, kept_by, kept_in, lookup, none-changed, own-changed, own-kept, own-set, own-within, refl, serials_uploaded, shelf_by, slice_get_within, stops_in, subst, sym, true, ◌∙◌}
-use Rattle.mv_repository.proofs.Words.{set, true≢false}
+use Rattle.mv_repository.proofs.Lemmas.{◌≡◌, AreSlots, IfSome, IsAgain, IsPut, IsWritten, Kept, List, LogEntry, Made, Option, Own, ShelfParts, ShelfTable, Slot, SlotTable, Some, [], ap, arith, bytes_eq, comes_first, entry_at, false, found-own, get_or_from_slice_get, is-changed, is_listed, keyed, kept_by, kept_in, lookup, none-changed, own-changed, own-kept, own-set, own-within, refl, serials_uploaded, shelf_by, slice_get_within, stops_in, subst, sym, true, ◌∙◌, made_batch, set, true≢false}
 use Rattle.mv_repository.proofs.shelf.Shelf.put_upload.Goals.{After-put, In-Some-Own, in_default-via-in-Some+in_default, in_default-via-in_default}
 use Rattle.mv_repository.proofs.shelf.Shelf.put_upload.Goals as goal
 
@@ -52,7 +51,7 @@ returns-in_default-clause-put c =
       later = λ e. absurd (true≢false (sym (first c) ∙ e));
       again = λ e. subst (IsAgain (log c) (stops_in (log c) c.args.newest.now.stops.now) c.args.gtin.now (Some c.args.newest.now.place) (kept_in (old c) c.args.serial.now))
           (sym (ap (kept_by (new c).tracks) (own c))) (record { birth = refl; statuses = sym (no-statuses c); worked = record { by = refl; blocks = tt } });
-      listed = λ e. subst (λ (slot : Option Slot). IfSome (batch_at (log c) c.args.newest.now.place) (λ batch. is_listed (new c).listing slot batch ≡ true)) (sym (own c)) (grind (arith));
+      listed = λ e. subst (λ (slot : Option Slot). IfSome (made_batch (entry_at (log c) c.args.newest.now.place)) (λ batch. is_listed (new c).listing slot batch ≡ true)) (sym (own c)) (grind (arith));
     })
 
 -- the track of the pack is written
@@ -92,5 +91,5 @@ returns-clause-put c =
       later = λ e. absurd (true≢false (sym first ∙ e));
       again = λ e. subst (λ (pair : Kept × Kept). IsAgain log stops c.args.gtin.now (Some place) pair.0 pair.1)
           (λ i. (sym (own-kept log one (are at) tracks c.self.invariant.1 serial number (found at) c.index_mut.result.now c.index_mut.ensures.value) i, sym (own-set log one (are at) tracks c.self.invariant.1 serial number (found at) track) i)) c.refresh.ensures;
-      listed = λ e. subst (λ (slot : Option Slot). IfSome (batch_at log place) (λ batch. is_listed c.note.new.self slot batch ≡ true)) (sym (found at)) c.note.ensures.added;
+      listed = λ e. subst (λ (slot : Option Slot). IfSome (made_batch (entry_at log place)) (λ batch. is_listed c.note.new.self slot batch ≡ true)) (sym (found at)) c.note.ensures.added;
     })

@@ -1,6 +1,5 @@
 -- The tracks that may be stopped are worked out, and the entry bears on no other pack.
-use Rattle.mv_repository.proofs.Lemmas.{AreShelfOf, Kept, List, ShelfTable, arith, common_steps, get_or, keyed, may_stop, no_entry, nothing_kept, shelf-again, shelf-seen, stop-form, stop-passes, stopped_product, stops_in, ℕ}
-use Rattle.mv_repository.proofs.Words.{IsRefreshed, SlotTable}
+use Rattle.mv_repository.proofs.Lemmas.{AreShelfOf, Kept, List, ShelfTable, arith, common_steps, get_or, keyed, may_stop, no_entry, nothing_kept, shelf-again, shelf-seen, stop-form, stop-passes, stopped_product, stops_in, ℕ, IsRefreshed, SlotTable}
 use Rattle.mv_repository.proofs.shelf.Shelf.refresh.Goals.{After-of}
 use Rattle.mv_repository.proofs.shelf.Shelf.refresh.Goals as goal
 
@@ -28,3 +27,6 @@ returns-in_default c = refreshed (goal.at.returns-in_default c).After-of c.loop-
 
 pub returns : goal.returns
 returns c = refreshed (goal.at.returns c).After-of c.loop-listed.tracks.items _ (λ number. grind (arith, common_steps, c.loop-listed.invariant.tracks number))
+
+pub loop-listed-preserved : goal.loop-listed-preserved
+loop-listed-preserved c = grind (arith, common_steps)

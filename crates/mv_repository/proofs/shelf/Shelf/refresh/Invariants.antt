@@ -1,4 +1,4 @@
-use Rattle.mv_repository.proofs.Words.{◌≡◌, ℕ, length, get_or, nat_lt, take, has_number, IsRefreshed, nothing_kept, stops_in}
+use Rattle.mv_repository.proofs.Words.{◌≡◌, ℕ, length, get_or, nat_lt, take, IsRefreshed, nothing_kept, stops_in, list_any, ◌==◌}
 use Rattle.mv_repository.proofs.shelf.Shelf.refresh.Given as goal
 
 -- those so far are worked out
@@ -12,6 +12,6 @@ invariant-loop-number l = record {
 abbrev pub invariant-loop-listed : goal.invariant-loop-listed
 invariant-loop-listed l = record {
   count : length l.tracks.items ≡ length l.initial.tracks.items;
-  tracks : (other : ℕ) → IsRefreshed l.newest.log.now (stops_in l.newest.log.now l.newest.stops.now) l.gtin (has_number (take l.listed-index l.numbers) other)
+  tracks : (other : ℕ) → IsRefreshed l.newest.log.now (stops_in l.newest.log.now l.newest.stops.now) l.gtin (list_any (λ one. one == other) (take l.listed-index l.numbers))
       (get_or l.initial.tracks.items other nothing_kept) (get_or l.tracks.items other nothing_kept);
 }

@@ -1,6 +1,5 @@
 -- The first works out the packs that it may bear on; any other changes none.
-use Rattle.mv_repository.proofs.Lemmas.{◌≡◌, ◌∙◌, AreStopsOf, arith, bytes_eq, comes_first, rules, ap, refl, subst, sym, get_or, take, true, false, Option, None, lookup, unwrap_or, ShelfParts, AreShelfOf, first_place, no_shelf, recall-added, shelf_of, no_entry, stopped_product, shelf-empty, masters-at, shelves-at, named-at, shelved-none, tables-follow, stop-form, stop-does, stop-leaves, stop-away, withdrawal-added}
-use Rattle.mv_repository.proofs.Words.{AreTablesOf, Bool, effect_of, lasting_effect, not, HasFirst, Tables, is_recall_of, is_same_batch, is_withdrawal_of}
+use Rattle.mv_repository.proofs.Lemmas.{◌≡◌, ◌∙◌, AreStopsOf, arith, bytes_eq, comes_first, rules, ap, refl, subst, sym, get_or, take, true, false, Option, None, lookup, unwrap_or, ShelfParts, AreShelfOf, first_place, no_shelf, recall-added, shelf_of, no_entry, stopped_product, shelf-empty, masters-at, shelves-at, named-at, shelved-none, tables-follow, stop-form, stop-does, stop-leaves, stop-away, withdrawal-added, AreTablesOf, Bool, effect_of, lasting_effect, not, HasFirst, Tables, is_recall_of, is_same_batch, is_withdrawal_of}
 use Rattle.mv_repository.proofs.tables.Tables.add_stop.Goals.{In_ok-is_first, in-OfBatch, in-OfProduct}
 use Rattle.mv_repository.proofs.tables.Tables.add_stop.Goals as goal
 

@@ -51,21 +51,21 @@ impl LineKind {
     }
 }
 
-/// The kind of that name.
+/// The kind of that name. Those that come most are asked for first.
 pub(crate) fn kind_called(name: &str) -> Option<LineKind>
     ensures { result ≡ kind_named name.now }
 {
     match name {
-        "open" => Some(LineKind::Open),
+        "apply" => Some(LineKind::Apply),
+        "relay" => Some(LineKind::Relay),
         "submit" => Some(LineKind::Submit),
         "route" => Some(LineKind::Route),
-        "relay" => Some(LineKind::Relay),
-        "apply" => Some(LineKind::Apply),
+        "verify" => Some(LineKind::Verify),
+        "verdict" => Some(LineKind::Verdict),
         "repeat" => Some(LineKind::Repeat),
         "close" => Some(LineKind::Close),
         "lose" => Some(LineKind::Lose),
-        "verify" => Some(LineKind::Verify),
-        "verdict" => Some(LineKind::Verdict),
+        "open" => Some(LineKind::Open),
         _ => None,
     }
 }

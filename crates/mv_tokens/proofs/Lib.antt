@@ -1,4 +1,5 @@
 pub mod Words
 pub mod LexLemmas
 pub mod RunLemmas
+pub mod WholeLemmas
 pub mod ReaderLemmas

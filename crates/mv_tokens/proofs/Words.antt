@@ -10,11 +10,11 @@ pub use Rattle.json.specs.Token.{Token, bad, begin_array, begin_object, boolean,
 pub use Rattle.json.specs.Word.{after_digits, after_exponent, after_fraction, after_minus, after_whole, ends_word, head, is_operator, is_space, literal, number_before}
 unfoldable pub use Rattle.json.specs.Word.{after_number, word}
 pub use Rattle.mv_tokens.specs.inside.Plain.{GoesOn, Steps, is_letter, tokens_from}
-pub use Rattle.std.proofs.Common.{IfSome, inl, inr, ◌⊎◌, Bool, IsUtf8, List, None, nat_eq, nat_lt, Option, Some, [], ap, arith, cond, drop, false, get_or, length, not, one-add, refl, rules, subst, suc, sym, take, true, option_and_then, length-drop, ℕ, ◌&&◌, ◌+◌, ◌-◌, ◌<◌, ◌==◌, ◌||◌, ◌∙◌, ◌∷◌, ◌≡◌, ◌≢◌, ◌≤◌, map, ap₂, ◌%◌, ◌^◌, replicate, eqb, ltb}
+pub use Rattle.std.proofs.Common.{decimal, IfSome, inl, inr, ◌⊎◌, Bool, IsUtf8, List, None, nat_eq, nat_lt, Option, Some, [], ap, arith, cond, drop, false, get_or, length, not, one-add, refl, rules, subst, suc, sym, take, true, option_and_then, length-drop, ℕ, ◌&&◌, ◌+◌, ◌-◌, ◌<◌, ◌==◌, ◌||◌, ◌∙◌, ◌∷◌, ◌≡◌, ◌≢◌, ◌≤◌, map, ap₂, ◌%◌, ◌^◌, replicate, eqb, ltb, ◌*◌, ◌/◌, ◌++◌}
 pub use Rattle.std.proofs.lemmas.Bool.{and_parts, eq-eqb, eqb-true, false≢true, ne_eqb}
 pub use Rattle.std.proofs.lemmas.Bool.Decides.{nat_tests}
 pub use Rattle.std.proofs.lemmas.Grind.{common_steps}
-pub use Rattle.std.proofs.lemmas.List.{drop_all, drop_more, drop-drop, get_or-drop, length-map, take_all}
+pub use Rattle.std.proofs.lemmas.List.{drop_all, drop_more, drop-drop, get_or-drop, length-map, take_all, take_more}
 pub use Rattle.std.proofs.lemmas.List.Folds.{prefix_len-append}
 pub use Rattle.std.proofs.lemmas.List.Sums.{prefix_len-le-length, prefix_len-drop_all, prefix_len-drop_no, prefix_len-drop_yes}
 pub use Rattle.std.proofs.lemmas.Simd.{chunk-drop, first_set_mask_l, length-chunk, map-map, mask_l-mod, zip2_of_maps, zip2_splat}
@@ -22,6 +22,10 @@ pub use Rattle.std.proofs.lemmas.Str.{IsCharBoundary-after_ascii, IsCharBoundary
 pub use Rattle.json.specs.declared.scratch.Scratch.{Scratch}
 pub use Rattle.mv_tokens.specs.inside.Reader.{IsReady, left_of}
 pub use Rattle.std.specs.Borrow.{MutBor}
+pub use Rattle.serde_json.proofs.Numbers.{number_of-decimal}
+pub use Rattle.serde_json.specs.Data.{unsigned}
+pub use Rattle.serde_json.specs.Read.{number_of}
+pub use Rattle.std.proofs.lemmas.Fmt.{decimal_digit, decimal_step}
 pub use Rattle.std.specs.Char.{is_ascii_digit}
 pub use Rattle.std.specs.List.{list_all, prefix_len, starts_with}
 pub use Rattle.std.specs.Str.{IsCharBoundary}

@@ -15,7 +15,7 @@ ghost use Rattle.std.specs.List.{list_all};
 ghost use Rattle.mv_tokens.specs.inside.Plain.{GoesOn, Steps, is_letter};
 
 use crate::run::{digits_end, plain_end};
-use crate::whole::whole_of;
+use crate::whole::whole_at;
 use json::Token;
 
 /// Takes the token that is next behind a place, and gives where the text goes on.
@@ -115,7 +115,7 @@ fn plain_string<'a>(text: &'a str, at: usize) -> Option<(Token<'a>, usize)>
     Some((Token::String(string), value_end(text, next)?))
 }
 
-/// Takes the whole number that is next behind a place and has no sign, where it has 64 bits, and gives where the text goes on.
+/// Takes the whole number that is next behind a place, where it has no sign and few digits, and gives where the text goes on.
 #[inline(always)]
 pub(crate) fn plain_whole(text: &str, from: usize) -> Option<(u64, usize)>
     requires place { IsCharBoundary text.now from }
@@ -127,8 +127,11 @@ pub(crate) fn plain_whole(text: &str, from: usize) -> Option<(u64, usize)>
     if at == bytes.len() || !bytes[at].is_ascii_digit() {
         return None;
     }
-    let (digits, on) = plain_digits(text, at)?;
-    Some((whole_of(digits)?, on))
+    let (number, end) = whole_at(bytes, at)?;
+    if !is_word_end(bytes, end) {
+        return None;
+    }
+    Some((number, value_end(text, end)?))
 }
 
 /// Takes a whole number that has no sign.

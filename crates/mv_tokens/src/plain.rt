@@ -14,7 +14,7 @@ ghost use Rattle.json.specs.Cursor.{is_leaf};
 ghost use Rattle.std.specs.List.{list_all};
 ghost use Rattle.mv_tokens.specs.inside.Plain.{GoesOn, Steps, is_letter};
 
-use crate::run::{digits_end, plain_end};
+use crate::run::plain_end;
 use crate::whole::whole_at;
 use json::Token;
 
@@ -36,7 +36,7 @@ pub(crate) fn plain_token<'a>(text: &'a str, from: usize) -> Option<(Token<'a>, 
         b'}' => Some((Token::EndObject, value_end(text, at + 1)?)),
         b']' => Some((Token::EndArray, value_end(text, at + 1)?)),
         b'0'..=b'9' => {
-            let (digits, on) = plain_digits(text, at)?;
+            let (_, digits, on) = plain_number(text, at)?;
             Some((Token::Number(digits), on))
         }
         b'n' => plain_word(text, at, b"null", Token::Null),
@@ -127,30 +127,25 @@ pub(crate) fn plain_whole(text: &str, from: usize) -> Option<(u64, usize)>
     if at == bytes.len() || !bytes[at].is_ascii_digit() {
         return None;
     }
+    let (number, _, on) = plain_number(text, at)?;
+    Some((number, on))
+}
+
+/// Takes a whole number that has no sign, and few digits: gives it, its digits, and where the text goes on.
+#[inline(always)]
+fn plain_number<'a>(text: &'a str, at: usize) -> Option<(u64, &'a str, usize)>
+    requires place { IsCharBoundary text.now at }
+    requires within { at < length text.now }
+    requires digit { is_ascii_digit (get_or text.now at 0) ≡ true }
+    ensures steps { IfSome result (λ step. Steps text.now at (number step.1.now) step.2) }
+    ensures is { IfSome result (λ step. number_of step.1.now ≡ Some (unsigned step.0)) }
+{
+    let bytes = text.as_bytes();
     let (number, end) = whole_at(bytes, at)?;
     if !is_word_end(bytes, end) {
         return None;
     }
-    Some((number, value_end(text, end)?))
-}
-
-/// Takes a whole number that has no sign.
-#[inline(always)]
-fn plain_digits<'a>(text: &'a str, at: usize) -> Option<(&'a str, usize)>
-    requires place { IsCharBoundary text.now at }
-    requires within { at < length text.now }
-    requires digit { is_ascii_digit (get_or text.now at 0) ≡ true }
-    ensures { IfSome result (λ step. Steps text.now at (number step.0.now) step.1) }
-{
-    let bytes = text.as_bytes();
-    let end = digits_end(bytes, at);
-    if bytes[at] == b'0' && end > at + 1 {
-        return None;
-    }
-    if !is_word_end(bytes, end) {
-        return None;
-    }
-    Some((&text[at..end], value_end(text, end)?))
+    Some((number, &text[at..end], value_end(text, end)?))
 }
 
 /// Takes one of the three words.

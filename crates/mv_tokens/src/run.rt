@@ -1,8 +1,7 @@
-//! Finds where a run of bytes ends: a run of plain bytes of a text, or of digits.
+//! Finds where the plain bytes of a text end.
 
 ghost use Rattle.std.specs.Prelude.{◌≡◌, ◌+◌, ◌≤◌, length, drop};
 ghost use Rattle.std.specs.List.{prefix_len};
-ghost use Rattle.std.specs.Char.{is_ascii_digit};
 ghost use Rattle.json.specs.Run.{is_plain};
 
 use std::simd::prelude::*;
@@ -64,18 +63,4 @@ fn is_plain(byte: u8) -> bool
     ensures { result ≡ is_plain byte }
 {
     byte != b'"' && byte != b'\\' && byte >= 0x20
-}
-
-/// The place behind the digits that begin at a place.
-#[inline(always)]
-pub(crate) fn digits_end(bytes: &[u8], from: usize) -> usize
-    requires within { from ≤ length bytes.now }
-    ensures within { result ≤ length bytes.now }
-    ensures value { result ≡ from + prefix_len is_ascii_digit (drop from bytes.now) }
-{
-    let mut at = from;
-    while at < bytes.len() && bytes[at].is_ascii_digit() {
-        at += 1;
-    }
-    at
 }

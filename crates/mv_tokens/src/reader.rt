@@ -77,7 +77,8 @@ impl<'a> Reader<'a> {
     /// Whether there is no further token. Where there is one, it is taken.
     #[inline(always)]
     pub fn is_done(&mut self) -> bool
-        ensures { IsTrue result → self.old ≡ [] }
+        ensures done { IsTrue result → self.old ≡ [] }
+        ensures more { IsFalse result → self.old ≢ [] }
     {
         if self.at == self.text.len() && self.library.is_none() {
             return true;

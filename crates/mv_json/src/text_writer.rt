@@ -112,6 +112,9 @@ impl TextWriter {
     }
 
     /// Writes the key of a member.
+    ///
+    /// It is inlined, so that a name that the caller spells out is not tested at run time.
+    #[inline(always)]
     #[tactic(auto, using(crate::proofs::WriterLemmas::key_put))]
     pub fn key(&mut self, name: &str) -> Result<(), AllocError>
         ensures { Puts result self.old self.new (key name.now ∷ []) }

@@ -8,6 +8,7 @@
 
 mod applied;
 mod calls;
+mod canonical;
 mod carrying;
 mod checks;
 mod ends;
@@ -17,7 +18,6 @@ mod format;
 mod histories;
 mod hub;
 mod index;
-mod json;
 mod lines;
 mod link;
 mod machine;
@@ -36,6 +36,7 @@ mod words;
 
 pub use applied::{know_lawful, submission_at};
 pub use calls::{ask_and_run, run_twice, step_twice};
+pub use canonical::canonical_text;
 pub use carrying::carry;
 pub use checks::texts_or_refusals;
 pub use ends::{outcome_in_turn, verdicts_in_one_outcome};
@@ -45,7 +46,6 @@ pub use format::refusal_of;
 pub use histories::have_same_history;
 pub use hub::route_and_list;
 pub use index::any_with;
-pub use json::canonical_text;
 pub use lines::take_twice_at_most;
 pub use link::carry_one;
 pub use machine::limits_or_code;

@@ -3,5 +3,5 @@ pub mod ListLemmas
 pub mod WritingLemmas
 pub mod KeyOrderLemmas
 pub mod RequestLawsLemmas
-pub mod LinePartLemmas
+pub mod LineFieldsLemmas
 pub mod CallerLemmas

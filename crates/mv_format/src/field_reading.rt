@@ -2,10 +2,10 @@
 
 ghost use Rattle.std.specs.Prelude.{◌≡◌, ◌≢◌, option_and_then, MatchResult, Ok, Err};
 ghost use Rattle.mv_format.specs.Words.{Data, GivesOr, read_code, read_gtin, view, whole_number};
-ghost use Rattle.mv_format.specs.inside.LineParts.{MayGive, Stands};
+ghost use Rattle.mv_format.specs.inside.LineFields.{MayGive, Stands};
 ghost use Rattle.mv_format.specs.Reading.{member_at, text_at, read_at, of_32_bits, number_at, message_at};
 
-use crate::line_part::{LineObject, LinePart, find};
+use crate::line_fields::LineObject;
 use crate::{LineFault, LineField};
 use mv_json::MessageFault;
 use mv_json::members::Named;
@@ -24,16 +24,14 @@ pub(crate) fn member_of(value: &Value, field: LineField) -> Result<&Value, LineF
 }
 
 /// The text of a field: M3, M5.
+#[tactic(auto, using(crate::proofs::LineFieldsLemmas::text_told))]
 pub(crate) fn text_of<'a>(object: LineObject<'a>, field: LineField) -> Result<&'a str, LineFault>
     ensures { (value : Data) → Stands value object.entry → MatchResult result
         (λ text. text_at field value ≡ Ok text.now)
         (λ fault. fault ≢ LineFault.Memory → text_at field value ≡ Err fault) }
 {
     match object {
-        LineObject::Met(entries) => match find(entries, field) {
-            Some(LinePart::Text(text)) => Ok(text),
-            _ => Err(LineFault::Memory),
-        },
+        LineObject::Met(met) => met.text(field).ok_or(LineFault::Memory),
         LineObject::Value(value) => member_of(value, field)?
             .as_str()
             .ok_or(LineFault::Kind(field)),
@@ -57,15 +55,12 @@ pub(crate) fn serial_of(object: LineObject<'_>, field: LineField) -> Result<Seri
 }
 
 /// The whole number of a field, up to 4,294,967,295: M3, M5.
-#[tactic(auto, unfolding(crate::specs::Reading::number_at))]
+#[tactic(auto, using(crate::proofs::LineFieldsLemmas::number_told), unfolding(crate::specs::Reading::number_at))]
 pub(crate) fn number_of(object: LineObject<'_>, field: LineField) -> Result<u32, LineFault>
     ensures { MayGive (number_at field) object.entry result }
 {
     match object {
-        LineObject::Met(entries) => match find(entries, field) {
-            Some(LinePart::Number(number)) => Ok(*number),
-            _ => Err(LineFault::Memory),
-        },
+        LineObject::Met(met) => met.number(field).ok_or(LineFault::Memory),
         LineObject::Value(value) => {
             whole_number(member_of(value, field)?).ok_or(LineFault::Kind(field))
         }
@@ -80,6 +75,7 @@ fn whole_number(value: &Value) -> Option<u32>
 }
 
 /// The message of a line: M3, then the message's own faults.
+#[tactic(auto, using(crate::proofs::LineFieldsLemmas::message_told))]
 pub(crate) fn message_of(
     alloc: Global,
     object: LineObject<'_>,
@@ -87,9 +83,9 @@ pub(crate) fn message_of(
     ensures { MayGive message_at object.entry result }
 {
     match object {
-        LineObject::Met(entries) => match find(entries, LineField::Message) {
-            Some(LinePart::Message(message)) => Ok(message.share()?),
-            _ => Err(LineFault::Memory),
+        LineObject::Met(met) => match &met.message {
+            Some(message) => Ok(message.share()?),
+            None => Err(LineFault::Memory),
         },
         LineObject::Value(value) => Ok(Shared::new(alloc, message_in(alloc, value)?)?),
     }

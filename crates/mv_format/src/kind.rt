@@ -2,10 +2,10 @@
 
 ghost use Rattle.std.specs.Prelude.{◌≡◌, ◌∷◌};
 ghost use Rattle.mv_format.specs.Kinds.{kind_named, kind_at, shape_of};
-ghost use Rattle.mv_format.specs.inside.LineParts.{MayGive};
+ghost use Rattle.mv_format.specs.inside.LineFields.{MayGive};
 
 use crate::field_reading::text_of;
-use crate::line_part::LineObject;
+use crate::line_fields::LineObject;
 use crate::{LineFault, LineField};
 
 /// What a line asks, which its field `do` names.

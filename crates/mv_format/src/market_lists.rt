@@ -2,7 +2,7 @@
 
 ghost use Rattle.std.specs.Prelude.{◌≡◌, ◌≢◌, IfOk, IfErr, Ok, Err, map, is_some};
 ghost use Rattle.mv_format.specs.Words.{GivesOr, as_list, as_str, items_view, list_all, view};
-ghost use Rattle.mv_format.specs.inside.LineParts.{market_item, market_list, read_all};
+ghost use Rattle.mv_format.specs.inside.LineFields.{market_item, market_list, read_all};
 ghost use Rattle.mv_format.specs.Reading.{market_lists_at};
 
 use crate::field_reading::member_of;
@@ -43,7 +43,7 @@ impl MarketLists {
 }
 
 /// The lists of markets of a field: M3; M5 where it is no list of lists of texts; M6 with P8.
-#[tactic(auto, using(crate::proofs::ListLemmas::lists_walked, crate::proofs::ListLemmas::all_are_text_lists), unfolding(crate::specs::inside::LineParts::walked_lists_at))]
+#[tactic(auto, using(crate::proofs::ListLemmas::lists_walked, crate::proofs::ListLemmas::all_are_text_lists), unfolding(crate::specs::inside::LineFields::walked_lists_at))]
 pub(crate) fn market_lists_of(
     alloc: Global,
     value: &Value,

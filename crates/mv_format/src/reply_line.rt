@@ -14,7 +14,9 @@ use crate::members::{Object, write_object};
 use crate::{Answered, LineFault, ToJson};
 use mv_json::members::Named;
 use mv_json::{MessageFault, TextWriter};
+use mv_link::Reached;
 use mv_machine::{Refusal, Reply};
+use mv_message::Party;
 use mv_pack::PackFault;
 use mv_repository::{Effect, Joint, Verdict};
 use std::alloc::{AllocError, Global};
@@ -68,17 +70,14 @@ impl ToJson for Answered {
     }
 }
 
-/// The reply to a step.
+/// The reply to a step. What is written by an array of members has a function of its own, so that no other reply clears its memory.
 impl ToJson for Reply {
     ghost value = { reply_value };
 
     fn write(&self, writer: &mut TextWriter) -> Result<(), AllocError> {
         match self {
             Reply::Submitted { k } => write_numbered(writer, "submitted", *k),
-            Reply::Routed { k, reach } => write_object(
-                writer,
-                &[Parties("reach", reach), Number("routed", *k as u64)],
-            ),
+            Reply::Routed { k, reach } => write_routed(writer, *k, reach),
             Reply::Relayed { number } => write_numbered(writer, "relayed", *number),
             Reply::Known(verdict) => write_verdict(writer, Joint::Decided(*verdict)),
             Reply::Asked { q } => write_numbered(writer, "asked", *q),
@@ -88,21 +87,12 @@ impl ToJson for Reply {
                 answer,
             } => write_applied(writer, *number, *effect, *answer),
             Reply::Old { number } => write_numbered(writer, "old", *number),
-            Reply::Gap { number, expected } => write_object(
-                writer,
-                &[
-                    Number("expected", *expected as u64),
-                    Number("gap", *number as u64),
-                ],
-            ),
+            Reply::Gap { number, expected } => write_gap(writer, *number, *expected),
             Reply::Repeated { number } => write_numbered(writer, "repeated", *number),
-            Reply::Closed => write_object(writer, &[Flag("closed", true)]),
+            Reply::Closed => write_closed(writer),
             Reply::Lost { number } => write_numbered(writer, "lost", *number),
             Reply::Joint(verdict) => write_verdict(writer, *verdict),
-            Reply::Refused(Refusal::Busy(party)) => write_object(
-                writer,
-                &[Number("party", *party as u64), Text("refused", "S6")],
-            ),
+            Reply::Refused(Refusal::Busy(party)) => write_busy(writer, *party),
             Reply::Refused(refusal) => write_refused(writer, refusal.code(), None),
         }
     }
@@ -173,7 +163,8 @@ fn write_message_fault(
     }
 }
 
-/// Writes an object with one whole number.
+/// Writes an object with one whole number. It is inlined for its key, as `TextWriter::key` is.
+#[inline(always)]
 fn write_numbered(writer: &mut TextWriter, key: &'static str, number: u32) -> Result<(), AllocError>
     ensures { Adds result writer.old writer.new (numbered key.now number) }
 {
@@ -181,6 +172,44 @@ fn write_numbered(writer: &mut TextWriter, key: &'static str, number: u32) -> Re
     writer.key(key)?;
     writer.u64(u64::from(number))?;
     writer.end_object()
+}
+
+/// Writes the reply that a message was routed, and to whom.
+#[inline(never)]
+fn write_routed(writer: &mut TextWriter, k: u32, reach: &Reached) -> Result<(), AllocError>
+    ensures { Adds result writer.old writer.new (reply_value (Reply.Routed k reach.now)) }
+{
+    let members = [Parties("reach", reach), Number("routed", k as u64)];
+    write_object(writer, &members)
+}
+
+/// Writes the reply that a frame lies behind a gap, and which was expected.
+#[inline(never)]
+fn write_gap(writer: &mut TextWriter, number: u32, expected: u32) -> Result<(), AllocError>
+    ensures { Adds result writer.old writer.new (reply_value (Reply.Gap number expected)) }
+{
+    let members = [
+        Number("expected", expected as u64),
+        Number("gap", number as u64),
+    ];
+    write_object(writer, &members)
+}
+
+/// Writes the reply that a link was closed.
+#[inline(never)]
+fn write_closed(writer: &mut TextWriter) -> Result<(), AllocError>
+    ensures { Adds result writer.old writer.new (reply_value Reply.Closed) }
+{
+    write_object(writer, &[Flag("closed", true)])
+}
+
+/// Writes the refusal of a routing for want of room on the link to a party.
+#[inline(never)]
+fn write_busy(writer: &mut TextWriter, party: Party) -> Result<(), AllocError>
+    ensures { Adds result writer.old writer.new (reply_value (Reply.Refused (Refusal.Busy party))) }
+{
+    let members = [Number("party", party as u64), Text("refused", "S6")];
+    write_object(writer, &members)
 }
 
 /// Writes the reply that a frame was applied, and the number of the answer that it called for.
@@ -232,6 +261,7 @@ fn write_counts(writer: &mut TextWriter, effect: Effect) -> Result<(), AllocErro
 }
 
 /// Writes a verdict on a pack: of all parties that were asked, or of the one repository that holds it.
+#[inline(never)]
 fn write_verdict(writer: &mut TextWriter, verdict: Joint) -> Result<(), AllocError>
     ensures { Adds result writer.old writer.new (reply_value (Reply.Joint verdict)) }
 {
@@ -255,6 +285,7 @@ fn write_verdict(writer: &mut TextWriter, verdict: Joint) -> Result<(), AllocErr
 }
 
 /// Writes a refusal by its number, with the number of a line, where one is given.
+#[inline(never)]
 fn write_refused(writer: &mut TextWriter, code: &str, line: Option<u32>) -> Result<(), AllocError>
     ensures { Adds result writer.old writer.new
         (object_of (number_where (codes "line") line ++ (codes "refused", string code.now) ∷ [])) }
@@ -264,6 +295,7 @@ fn write_refused(writer: &mut TextWriter, code: &str, line: Option<u32>) -> Resu
 }
 
 /// Writes a refusal that names a field.
+#[inline(never)]
 fn write_field<'a>(
     writer: &mut TextWriter,
     field: &'a str,
@@ -278,6 +310,7 @@ fn write_field<'a>(
 }
 
 /// Writes the refusal of a text that is no value (M6). That of P6 has the place of the character.
+#[inline(never)]
 fn write_pack(
     writer: &mut TextWriter,
     field: &str,

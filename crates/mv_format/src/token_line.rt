@@ -1,25 +1,29 @@
 //! Reads lines by their tokens, with no value in between, their keys in any order.
 
-ghost use Rattle.std.specs.Prelude.{◌≡◌, ◌∷◌, [], Ok, IfOk, IfSome, IsTrue, MatchOption};
+ghost use Rattle.std.specs.Prelude.{◌≡◌, ◌∷◌, Ok, IfSome, IsTrue, MatchOption, None};
 ghost use Rattle.mv_format.specs.Words.{Data, begin_object, end_object, key};
 ghost use Rattle.mv_format.specs.Fields.{field_name};
-ghost use Rattle.mv_format.specs.inside.LineParts.{Asks, BeginWithEntries, BeginWithPart, HasEntries};
+ghost use Rattle.mv_format.specs.inside.LineFields.{Asks, BeginWithFields, BeginWithPart, HasFields, LinePart, Meets, met_of};
+ghost use Rattle.mv_format.specs.declared.field.LineField.{LineField as AField};
+ghost use Rattle.mv_format.specs.inside.LineFields.LinePart.{Message as InMessage, Number};
 ghost use Rattle.mv_format.specs.Requests.{read_line, read_request};
+ghost use Rattle.mv_format.specs.declared.request.Request.TheVariants.{Step as AsksStep};
 
-use crate::kind::kind_of;
-use crate::line_part::{LineEntry, LineObject, LinePart, MOST_FIELDS, adds, are_among};
-use crate::{LineFault, LineField, Request};
-use arrayvec::ArrayVec;
+use crate::LineField;
+use crate::kind::kind_called;
+use crate::line_fields::{LineFields, LineObject, puts};
+use crate::request::step_of;
 use json::{Scratch, Token};
 use mv_json::take_message;
-use mv_message::Shared;
+use mv_machine::Step;
+use mv_message::{Message, Shared};
 use mv_tokens::Reader;
 use std::alloc::Global;
 
-/// What a line asks, its keys in any order, in memory that is kept from line to line. What asks no step, or has a key twice,
-/// gives none, and so does a refusal of memory.
-pub(crate) fn read_by_tokens(alloc: Global, scratch: &mut Scratch, line: &[u8]) -> Option<Request>
-    ensures { IfSome result (λ request. read_line line.now ≡ Ok request) }
+/// The step that a line asks, its keys in any order, in memory that is kept from line to line. What asks none, or has a key twice,
+/// gives none, and so does a refusal of memory: [`Request::read`] says which.
+pub fn read_step(alloc: Global, scratch: &mut Scratch, line: &[u8]) -> Option<Step>
+    ensures { IfSome result (λ step. read_line line.now ≡ Ok (AsksStep step)) }
 {
     let Ok(text) = simdutf8::basic::from_utf8(line) else {
         return None;
@@ -28,60 +32,52 @@ pub(crate) fn read_by_tokens(alloc: Global, scratch: &mut Scratch, line: &[u8]) 
         return None;
     }
     let mut reader = Reader::new(text, scratch);
-    let request = take_request(alloc, &mut reader)?;
+    let step = take_step(alloc, &mut reader)?;
     if !reader.is_done() {
         return None;
     }
-    Some(request)
+    Some(step)
 }
 
-/// Takes what the object which is next asks.
-fn take_request(alloc: Global, reader: &mut Reader<'_>) -> Option<Request>
-    ensures { IfSome result (λ request. Asks reader.old request reader.new) }
+/// Takes the step that the object asks which is next.
+fn take_step(alloc: Global, reader: &mut Reader<'_>) -> Option<Step>
+    ensures { IfSome result (λ step. Asks reader.old (AsksStep step) reader.new) }
 {
     if !reader.takes_opening() {
         return None;
     }
-    let mut entries = ArrayVec::new();
-    if !takes_members(alloc, reader, &mut entries) {
+    let mut met = LineFields::default();
+    if !takes_members(alloc, reader, &mut met) {
         return None;
     }
-    request_met(alloc, &entries).ok()
+    step_met(alloc, &met)
 }
 
-/// What a line of these fields asks, where each is one of its kind.
-fn request_met(alloc: Global, entries: &[LineEntry<'_>]) -> Result<Request, LineFault>
-    ensures { IfOk result (λ request. (value : Data) → HasEntries value entries.now → read_request value ≡ Ok request) }
+/// The step that a line of these fields asks, where each is one of its kind.
+fn step_met(alloc: Global, met: &LineFields<'_>) -> Option<Step>
+    ensures { IfSome result (λ step. (value : Data) → HasFields value met.now → read_request value ≡ Ok (AsksStep step)) }
 {
-    let object = LineObject::Met(entries);
-    let kind = kind_of(object)?;
-    if !are_among(entries, kind.fields()) {
-        return Err(LineFault::Memory);
+    let kind = kind_called(met.text(LineField::Do)?)?;
+    if !met.are_among(kind.fields()) {
+        return None;
     }
-    // Only what is read is promised, so a fault goes out by itself, and the request is given anew.
-    let request = Request::of_kind(alloc, kind, object)?;
-    Ok(request)
+    let Ok(step) = step_of(alloc, kind, LineObject::Met(met)) else {
+        return None;
+    };
+    Some(step)
 }
 
 /// Takes the rest of an object, behind its opening brace, with its fields in any order, each once, and says whether it could.
-#[tactic(auto, using(crate::proofs::LinePartLemmas::no_entry, crate::proofs::LinePartLemmas::one_more_entry, crate::proofs::LinePartLemmas::all_entries))]
-fn takes_members<'a>(
-    alloc: Global,
-    reader: &mut Reader<'a>,
-    entries: &mut ArrayVec<LineEntry<'a>, MOST_FIELDS>,
-) -> bool
-    requires none { entries.old.items ≡ [] }
-    ensures { IsTrue result
-        → BeginWithEntries (begin_object ∷ reader.old) entries.new.items reader.new }
+#[tactic(auto, using(crate::proofs::LineFieldsLemmas::no_field, crate::proofs::LineFieldsLemmas::one_more_field, crate::proofs::LineFieldsLemmas::all_fields))]
+fn takes_members<'a>(alloc: Global, reader: &mut Reader<'a>, met: &mut LineFields<'a>) -> bool
+    requires none { (field : AField) → met_of met.old field ≡ None }
+    ensures { IsTrue result → BeginWithFields (begin_object ∷ reader.old) met.new reader.new }
 {
     while let Some(next) = next_field(reader) {
         let Some(field) = next else {
             return true;
         };
-        let Some(part) = take_part(alloc, reader, field) else {
-            return false;
-        };
-        if !adds(entries, field, part) {
+        if !takes_field(alloc, reader, field, met) {
             return false;
         }
     }
@@ -119,23 +115,42 @@ fn field_named(name: &str) -> Option<LineField>
     }
 }
 
-/// Takes what stands in a field, by the field's kind.
-fn take_part<'a>(alloc: Global, reader: &mut Reader<'a>, field: LineField) -> Option<LinePart<'a>>
-    ensures { IfSome result (λ part. BeginWithPart reader.old part reader.new) }
+/// Takes what stands in a field, by the field's kind. Says whether it could, and the field was not met before.
+fn takes_field<'a>(
+    alloc: Global,
+    reader: &mut Reader<'a>,
+    field: LineField,
+    met: &mut LineFields<'a>,
+) -> bool
+    ensures { IsTrue result → (part : LinePart)
+        × BeginWithPart reader.old part reader.new × Meets met.old field part met.new }
 {
     match field {
-        LineField::Do | LineField::Gtin | LineField::Serial => {
-            let text = reader.take_text()?;
-            Some(LinePart::Text(text))
-        }
-        LineField::Message => {
-            let message = Shared::new(alloc, take_message(alloc, reader)?).ok()?;
-            Some(LinePart::Message(message))
-        }
-        LineField::From | LineField::Number | LineField::Party | LineField::Q | LineField::To => {
-            let number = u32::try_from(reader.take_whole()?).ok()?;
-            Some(LinePart::Number(number))
-        }
-        _ => None,
+        LineField::Do => puts(&mut met.asked, reader.take_text()),
+        LineField::From => puts(&mut met.from, take_number(reader)),
+        LineField::Gtin => puts(&mut met.gtin, reader.take_text()),
+        LineField::Message => puts(&mut met.message, take_shared(alloc, reader)),
+        LineField::Number => puts(&mut met.number, take_number(reader)),
+        LineField::Party => puts(&mut met.party, take_number(reader)),
+        LineField::Q => puts(&mut met.q, take_number(reader)),
+        LineField::Serial => puts(&mut met.serial, reader.take_text()),
+        LineField::To => puts(&mut met.to, take_number(reader)),
+        _ => false,
     }
+}
+
+/// Takes a whole number of 32 bits.
+fn take_number(reader: &mut Reader<'_>) -> Option<u32>
+    ensures { IfSome result (λ number. BeginWithPart reader.old (Number number) reader.new) }
+{
+    let number = u32::try_from(reader.take_whole()?).ok()?;
+    Some(number)
+}
+
+/// Takes a message.
+fn take_shared(alloc: Global, reader: &mut Reader<'_>) -> Option<Shared<Message>>
+    ensures { IfSome result (λ message. BeginWithPart reader.old (InMessage message) reader.new) }
+{
+    let message = take_message(alloc, reader)?;
+    Shared::new(alloc, message).ok()
 }

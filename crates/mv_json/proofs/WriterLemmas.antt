@@ -1,10 +1,11 @@
 -- The text of a token, put behind what was written.
-use Rattle.mv_json.proofs.Words.{◌≡◌, ◌≤◌, ℕ, Bool, List, [], ◌∷◌, ◌++◌, IsUtf8, Puts, Result, Token, ap, append-nil, append_assoc, arith, cond, drop, false, key, length, subst, sym, true, ◌∙◌, refl}
+use Rattle.mv_json.proofs.Words.{◌≡◌, ◌<◌, ◌≤◌, ℕ, Bool, Field, List, [], ◌∷◌, ◌++◌, IsUtf8, Puts, Result, Token, ap, append-nil, append_assoc, arith, cond, drop, false, key, length, subst, sym, true, ◌∙◌, refl}
 use Rattle.mv_json.specs.Tokens.{Written}
-use Rattle.json.specs.Print.{begins, ends, print, print_from, quoted, separator, token_text}
+use Rattle.mv_json.specs.Fields.{field_name}
+use Rattle.json.specs.Print.{begins, ends, escape, escape_byte, print, print_from, quoted, separator, token_text}
 use Rattle.std.proofs.lemmas.List.{drop-append-le, length-append}
 use Rattle.std.proofs.lemmas.Result.{on_ok_weaker}
-use Rattle.std.proofs.lemmas.Str.{IsUtf8-append}
+use Rattle.std.proofs.lemmas.Str.{IsUtf8-append, IsUtf8-from_ascii}
 use Rattle.std.specs.Prelude.{OnOk}
 
 -- the comma before a token
@@ -54,3 +55,12 @@ pub stays_utf8 : (appended : Bool) (start : ℕ) (old text new : List ℕ) → n
 stays_utf8 false start old text new is was utf8 = rw is was
 stays_utf8 true start old text new is was utf8 =
     rw is (omega (arith, was.0, length-append old text), subst IsUtf8 (sym (drop-append-le start old text was.0)) (IsUtf8-append (drop start old) text was.1 utf8))
+
+-- a character of ASCII is a text
+pub ascii_utf8 : (byte : ℕ) → byte < 128 → IsUtf8 (byte ∷ [])
+ascii_utf8 byte ascii = IsUtf8-from_ascii (byte ∷ []) (grind (arith, ascii))
+
+-- the name of a field needs no escape
+pub names_plain : (field : Field) → escape (field_name field) ≡ field_name field
+unfolding escape_byte
+names_plain field = grind arith

@@ -46,7 +46,7 @@ pub(crate) fn put_object(
 }
 
 /// Writes these members of an object that was begun.
-#[tactic(auto, unfolding(crate::specs::inside::Tokens::PutsValue))]
+#[tactic(auto, using(crate::proofs::WriterLemmas::names_plain), unfolding(crate::specs::inside::Tokens::PutsValue))]
 pub(crate) fn put_members(
     writer: &mut TextWriter,
     members: &[(Field, Said<'_>)],
@@ -54,7 +54,7 @@ pub(crate) fn put_members(
     ensures { Puts result writer.old writer.new (members_put members.now) }
 {
     for (field, said) in members {
-        writer.key(field.as_str())?;
+        writer.plain_key(field.as_str())?;
         put_said(writer, *said)?;
     }
     Ok(())

@@ -1,10 +1,10 @@
 //! Takes what stands in the fields of a message by its tokens, with no value in between.
 
-ghost use Rattle.std.specs.Prelude.{◌≡◌, ◌≤◌, ℕ, List, ◌∷◌, length, Ok, IfSome, MatchOption, suc};
+ghost use Rattle.std.specs.Prelude.{◌≡◌, ◌≤◌, ℕ, List, ◌∷◌, length, IfSome, MatchOption, suc};
 ghost use Rattle.json.specs.Reads.{token_of};
-ghost use Rattle.json.specs.Token.{Token as AToken, begin_array, begin_object, end_array, end_object, key};
+ghost use Rattle.json.specs.Token.{Token as AToken, begin_array, begin_object, end_array, end_object, key, string};
 ghost use Rattle.mv_json.specs.Fields.{field_name};
-ghost use Rattle.mv_json.specs.inside.Parts.{BeginWithPart, BeginWithEntries, BeginWithText, BeginWithTexts, deep_in};
+ghost use Rattle.mv_json.specs.inside.Parts.{BeginWithPart, BeginWithEntries, BeginWithTexts, deep_in};
 
 use crate::Field;
 use crate::found_reading::sighting_in;
@@ -190,11 +190,11 @@ fn take_list<T: Listed>(alloc: Global, reader: &mut Reader<'_>, most: usize) -> 
     let Ok(mut list) = Vec::with_capacity(alloc, most) else {
         return None;
     };
-    while let Some(item) = next_item(reader)? {
+    while let Some(text) = next_text(reader)? {
         if list.len() == most {
             return None;
         }
-        list.push_reserved(item);
+        list.push_reserved(T::from_text(text).ok()?);
     }
     if list.is_empty() {
         return None;
@@ -202,15 +202,15 @@ fn take_list<T: Listed>(alloc: Global, reader: &mut Reader<'_>, most: usize) -> 
     Some(list)
 }
 
-/// Takes a value of a list, or the end of the list, which is none.
+/// Takes a text of a list, or the end of the list, which is none.
 #[inline(always)]
-fn next_item<T: Listed>(reader: &mut Reader<'_>) -> Option<Option<T>>
+fn next_text<'a>(reader: &mut Reader<'a>) -> Option<Option<&'a str>>
     ensures { IfSome result (λ next. MatchOption next
         (reader.old ≡ end_array ∷ reader.new)
-        (λ value. BeginWithText reader.old (λ text. T.reads text ≡ Ok value) reader.new)) }
+        (λ text. reader.old ≡ string text.now ∷ reader.new)) }
 {
     match reader.next()? {
-        Token::String(text) => Some(Some(T::from_text(text).ok()?)),
+        Token::String(text) => Some(Some(text)),
         Token::EndArray => Some(None),
         _ => None,
     }

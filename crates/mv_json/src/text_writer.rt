@@ -3,10 +3,10 @@
 //! It does what the writer of the `json` library does, and makes no room ahead of what it writes: so it may write behind a full
 //! buffer, and there is nothing to be copied in the end.
 
-ghost use Rattle.std.specs.Prelude.{◌≡◌, ◌++◌, [], ◌∷◌, cond, decimal, false, IsUtf8, OnOk};
+ghost use Rattle.std.specs.Prelude.{◌≡◌, ◌<◌, ◌++◌, [], ◌∷◌, cond, decimal, false, IsUtf8, OnOk};
 ghost use Rattle.mv_json.specs.Words.{Token, key};
 ghost use Rattle.mv_json.specs.Tokens.{Puts};
-ghost use Rattle.json.specs.Print.{quoted};
+ghost use Rattle.json.specs.Print.{escape, quoted};
 ghost use Rattle.json.specs.Token.{begin_array, begin_object, boolean, end_array, end_object, null, number, string};
 
 use crate::plain::is_plain;
@@ -80,7 +80,7 @@ impl TextWriter {
     {
         self.separate()?;
         self.after_value = false;
-        self.append("{")
+        self.put(b'{')
     }
 
     /// Ends an object.
@@ -89,7 +89,7 @@ impl TextWriter {
         ensures { Puts result self.old self.new (end_object ∷ []) }
     {
         self.after_value = true;
-        self.append("}")
+        self.put(b'}')
     }
 
     /// Begins an array.
@@ -99,7 +99,7 @@ impl TextWriter {
     {
         self.separate()?;
         self.after_value = false;
-        self.append("[")
+        self.put(b'[')
     }
 
     /// Ends an array.
@@ -108,7 +108,7 @@ impl TextWriter {
         ensures { Puts result self.old self.new (end_array ∷ []) }
     {
         self.after_value = true;
-        self.append("]")
+        self.put(b']')
     }
 
     /// Writes the key of a member.
@@ -122,7 +122,20 @@ impl TextWriter {
         self.separate()?;
         self.after_value = false;
         self.quote(name)?;
-        self.append(":")
+        self.put(b':')
+    }
+
+    /// Writes the key of a member whose name needs no escape, without a look at it.
+    #[inline(always)]
+    #[tactic(auto, using(crate::proofs::WriterLemmas::key_put))]
+    pub(crate) fn plain_key(&mut self, name: &str) -> Result<(), AllocError>
+        requires plain { escape name.now ≡ name.now }
+        ensures { Puts result self.old self.new (key name.now ∷ []) }
+    {
+        self.separate()?;
+        self.after_value = false;
+        self.quote_plain(name)?;
+        self.put(b':')
     }
 
     /// Writes a text.
@@ -175,7 +188,7 @@ impl TextWriter {
             (self.new.text ≡ self.old.text ++ cond self.old.after_value (44 ∷ []) []) }
     {
         if self.after_value {
-            return self.append(",");
+            return self.put(b',');
         }
         Ok(())
     }
@@ -190,9 +203,20 @@ impl TextWriter {
         if !is_plain(text.as_bytes()) {
             return self.escape(text);
         }
-        self.append("\"")?;
+        self.quote_plain(text)
+    }
+
+    /// Writes a text in quotes that needs no escape.
+    #[inline(always)]
+    fn quote_plain(&mut self, text: &str) -> Result<(), AllocError>
+        requires plain { escape text.now ≡ text.now }
+        ensures before { self.new.before ≡ self.old.before }
+        ensures after_value { self.new.after_value ≡ self.old.after_value }
+        ensures text { OnOk result (self.new.text ≡ self.old.text ++ quoted text.now) }
+    {
+        self.put(b'"')?;
         self.append(text)?;
-        self.append("\"")
+        self.put(b'"')
     }
 
     /// Writes a text in quotes, and an escape for each character that needs one.
@@ -210,6 +234,17 @@ impl TextWriter {
             unreachable!();
         };
         self.append(escaped.as_str())
+    }
+
+    /// Writes a character of ASCII as it is. It is a push in place, where `append` is a call.
+    #[inline(always)]
+    fn put(&mut self, byte: u8) -> Result<(), AllocError>
+        requires ascii { byte < 128 }
+        ensures before { self.new.before ≡ self.old.before }
+        ensures after_value { self.new.after_value ≡ self.old.after_value }
+        ensures text { OnOk result (self.new.text ≡ self.old.text ++ byte ∷ []) }
+    {
+        self.bytes.push(byte).or(Err(AllocError))
     }
 
     /// Writes bytes as they are.

@@ -2,6 +2,6 @@
 pub use Rattle.mv_engine.specs.Lines.{Line, lines_from, pieces}
 pub use Rattle.mv_engine.specs.Replies.{AreReplies, GotNoReply, said_texts}
 pub use Rattle.mv_engine.specs.Served.{AreAnswered, Ended, EndedAt, Served, StoppedAt, TookAtMostOne}
-pub use Rattle.std.proofs.Common.{Bool, Err, IfErr, IfSome, List, None, Ok, Result, Some, [], ap, arith, if◌then◌else◌, inl, inr, is_ok, map, refl, subst, sym, true, ℕ, ◌&&◌, ◌∷◌, ◌≡◌}
+pub use Rattle.std.proofs.Common.{Bool, Err, IfErr, IfSome, List, None, Ok, Result, Some, [], ap, arith, if◌then◌else◌, inl, inr, is_ok, map, refl, rules, subst, sym, true, ℕ, ◌&&◌, ◌∷◌, ◌≡◌}
 pub use Rattle.std.specs.Io.KnownBytes.{Appends, Consumes}
 pub use Rattle.std.specs.declared.option.Option.{Option}

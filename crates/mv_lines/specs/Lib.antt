@@ -2,6 +2,7 @@ pub mod Sessions
 pub mod Canon
 pub mod Checks
 pub mod Strict
+pub mod inside
 pub use Rattle.mv_engine.specs.Lines
 pub use Rattle.mv_engine.specs.Replies
 pub use Rattle.mv_engine.specs.Served

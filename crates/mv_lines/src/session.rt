@@ -1,16 +1,19 @@
 //! What comes of the lines of a run of steps.
 
-ghost use Rattle.std.specs.Prelude.{◌≡◌, None, IfOk, IfErr};
+ghost use Rattle.std.specs.Prelude.{◌≡◌, ◌≢◌, ℕ, List, None, Ok, IfOk, IfErr, MatchResult};
 ghost use Rattle.std.specs.Mem.{manually_drop_value};
 ghost use Rattle.std.specs.Option.{option_copied};
 ghost use Rattle.mv_hub.specs.Parties.{parties_of};
+ghost use Rattle.mv_format.specs.Requests.{read_line};
 ghost use Rattle.mv_json.specs.Reading.{map_err};
 ghost use Rattle.mv_lines.specs.Sessions.{opened_by, IsRequestTaken, IsTaken, IsReply};
+ghost use Rattle.mv_lines.specs.inside.Said.{IsSaid};
 
 use json::Scratch;
 use mv_engine::Answering;
 use mv_format::{
     Answered, LineFault, MarketLists, OpenFault, Request, append_json, limits_of, parties_of,
+    read_step,
 };
 use mv_machine::{Limits, Step};
 use mv_system::World;
@@ -42,8 +45,11 @@ impl Answering for Session {
     ghost replies = { IsReply };
 
     fn answer(&mut self, _number: u32, line: &[u8], out: &mut Vec<u8>) -> Result<bool, AllocError> {
-        let answered = self.take(line)?;
-        append_json(self.alloc, out, &answered).and(Ok(true))
+        match read_step(self.alloc, &mut self.scratch, line) {
+            Some(step) => self.say_step(&step, out)?,
+            None => self.say_read(line, out)?,
+        }
+        Ok(true)
     }
 }
 
@@ -80,31 +86,55 @@ impl Session {
         ensures ok { IfOk result (λ answered. IsTaken self.old line.now answered self.new) }
         ensures err { IfErr result (λ _. self.new ≡ self.old) }
     {
-        match Request::read_in(self.alloc, &mut self.scratch, line) {
-            Ok(request) => self.take_request(request),
+        let read = Request::read_in(self.alloc, &mut self.scratch, line);
+        self.take_read(read)
+    }
+
+    /// Does what a line asks that was read, or says its fault.
+    fn take_read(&mut self, read: Result<Request, LineFault>) -> Result<Answered, AllocError>
+        ensures ok { IfOk result (λ answered. MatchResult read
+            (λ request. IsRequestTaken self.old request answered self.new)
+            (λ fault. (fault ≢ LineFault.Memory) × (answered ≡ Answered.Unread fault) × (self.new ≡ self.old))) }
+        ensures err { IfErr result (λ _. self.new ≡ self.old) }
+    {
+        match read {
+            Ok(
+                Request::Open {
+                    parties,
+                    submissions,
+                    uplink,
+                    window,
+                    wire,
+                },
+            ) => {
+                let limits = limits_of(window, wire, uplink, submissions);
+                self.open(parties, limits)
+            }
+            Ok(Request::Step(step)) => Ok(self.step(step)),
             Err(LineFault::Memory) => Err(AllocError),
             Err(fault) => Ok(Answered::Unread(fault)),
         }
     }
 
-    /// Does what a line asks.
-    fn take_request(&mut self, request: Request) -> Result<Answered, AllocError>
-        ensures ok { IfOk result (λ answered. IsRequestTaken self.old request answered self.new) }
-        ensures err { IfErr result (λ _. self.new ≡ self.old) }
+    /// Makes a step, and writes its reply at once: what is made of a step and handed on is copied.
+    #[inline(always)]
+    fn say_step(&mut self, step: &Step, out: &mut Vec<u8>) -> Result<(), AllocError>
+        ensures { (line : List ℕ) → read_line line ≡ Ok (Request.Step step.now)
+            → IsSaid (IsTaken self.old line) self.old out.old.items result out.new.items self.new }
     {
-        match request {
-            Request::Open {
-                parties,
-                submissions,
-                uplink,
-                window,
-                wire,
-            } => {
-                let limits = limits_of(window, wire, uplink, submissions);
-                self.open(parties, limits)
-            }
-            Request::Step(step) => Ok(self.step(step)),
-        }
+        let Some(world) = &mut self.world else {
+            return append_json(self.alloc, out, &Answered::NotTaken(OpenFault::NotOpen));
+        };
+        append_json(self.alloc, out, &world.step(step))
+    }
+
+    /// Reads a line by its value, takes it, and writes the reply.
+    #[inline(never)]
+    fn say_read(&mut self, line: &[u8], out: &mut Vec<u8>) -> Result<(), AllocError>
+        ensures { IsSaid (IsTaken self.old line.now) self.old out.old.items result out.new.items self.new }
+    {
+        let answered = self.take_read(Request::read(self.alloc, line))?;
+        append_json(self.alloc, out, &answered)
     }
 
     /// Opens a system of these parties and limits: C2, H1 to H3, O1 to O4.

@@ -10,7 +10,7 @@ loop-field-init c = nothing
 pub loop-field-preserved : goal.loop-field-preserved
 unfolding PutsValue
 loop-field-preserved c =
-    named (c.loop-field.invariant then c.in_ok-key.ensures then c.in_ok-put_said.ensures) (grind (arith, common_steps, append_assoc))
+    named (c.loop-field.invariant then c.in_ok-plain_key.ensures then c.in_ok-put_said.ensures) (grind (arith, common_steps, append_assoc))
 
 -- all members
 pub returns : goal.returns

@@ -1,10 +1,19 @@
-use Rattle.std.proofs.Common.{IfErr, Result, Ok, Err, refl, inr}
+use Rattle.mv_lines.proofs.Words.{IfErr, Result, Ok, Err, rules}
+use Rattle.mv_lines.proofs.SaidLemmas.{not_said}
+use Rattle.mv_engine.specs.Lines.{line_at}
 use Rattle.mv_lines.proofs.session.SessionAnswering.answer.Goals as goal
 
 always : {A E X : Type 0} (r : Result A E) → X → IfErr r (λ (e : E). X)
 always (Ok u) x = tt
 always (Err e) x = x
 
--- the line was taken, and there is no memory for its reply
-pub returns-clause-left : goal.returns-clause-left
-returns-clause-left c = always c.and.result (inr (_, (c.in_ok-answered.answered, c.in_ok-answered.ensures.ok, refl)))
+-- what was not written
+pub returns-in_err-say_step-in-Some-clause-left : goal.returns-in_err-say_step-in-Some-clause-left
+returns-in_err-say_step-in-Some-clause-left c =
+    let said = not_said _ _ (line_at c.args._number c.args.line.now) _ _ c.say_step.result (c.say_step.ensures _ c.in-Some.ensures) in
+    always c.from_residual.result (search (rules, said))
+
+pub returns-in_err-say_read-in-None-clause-left : goal.returns-in_err-say_read-in-None-clause-left
+returns-in_err-say_read-in-None-clause-left c =
+    let said = not_said _ _ (line_at c.args._number c.args.line.now) _ _ c.say_read.result c.say_read.ensures in
+    always c.from_residual-in_err-say_read-in-None.result (search (rules, said))

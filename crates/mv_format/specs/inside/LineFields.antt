@@ -1,19 +1,18 @@
 -- What stands in the fields of a line, as they are met in its object; the tokens of JSON that it is read from; and what reading lists
 -- of markets gives, one member after the other.
-use Rattle.std.specs.Prelude.{ℕ, if◌then◌else◌, is_some, List, [], ◌∷◌, ◌++◌, Result, Ok, Err, ok_or, ◌≡◌, ◌<◌, ◌^◌}
+use Rattle.std.specs.Prelude.{ℕ, if◌then◌else◌, is_some, List, [], ◌∷◌, ◌++◌, Contains, Option, Some, None, option_map, Result, Ok, Err, ok_or, true, ◌≡◌, ◌⊎◌, ◌<◌, ◌^◌}
 use Rattle.mv_format.specs.Words.{Data, Items, Kind, LineFault, LineField, LineKind, Pack, as_array, as_list, as_str, each_of, item, map_err, no_items, read_market, ◌and_then◌, GivesOr, Memory, Request, Token, read_message, string, view, whole}
-use Rattle.mv_format.specs.Reading.{member_at, message_at, number_at, text_at}
+use Rattle.mv_format.specs.Reading.{member_at}
 use Rattle.mv_json.specs.Met.{BeginWith}
 use Rattle.mv_json.specs.inside.Parts.{HasMet}
-use Rattle.mv_format.specs.declared.line_part.LineEntry.{LineEntry}
-use Rattle.mv_format.specs.declared.line_part.LineObject.{LineObject}
-use Rattle.mv_format.specs.declared.line_part.LinePart.{LinePart}
+use Rattle.mv_format.specs.declared.line_fields.LineFields.{LineFields}
+use Rattle.mv_format.specs.declared.line_fields.LineObject.{LineObject}
+use Rattle.mv_message.specs.declared.message.Message.{Message as AMessage}
 use Rattle.mv_format.specs.Fields.{field_name}
 use Rattle.mv_format.specs.Kinds.{shape_of}
 use Rattle.mv_format.specs.Requests.{asked_at, read_request}
 use Rattle.mv_format.specs.declared.field.LineField.TheVariants as fields
-use Rattle.mv_format.specs.declared.line_part.LineObject.TheVariants as objects
-use Rattle.mv_format.specs.declared.line_part.LinePart.TheVariants as parts
+use Rattle.mv_format.specs.declared.line_fields.LineObject.TheVariants as objects
 
 -- what each member of a list is read as, in its order, or the fault of the first bad one
 abbrev pub read_all : {A : Type 0} → (Data → Result A LineFault) → Items → Result (List A) LineFault
@@ -39,45 +38,64 @@ walked_lists_at field value =
 abbrev pub with_front : {A : Type 0} → List A → Result (List A) LineFault → Result (List A) LineFault
 with_front front reading = reading and_then λ rest. Ok (front ++ rest)
 
+-- what stands in a field, as its tokens say
+pub data LinePart : Type 0 where
+  Message : AMessage → LinePart
+  Number : ℕ → LinePart  -- of 32 bits
+  Text : List ℕ → LinePart
+
 -- what a value says
 abbrev pub IsPart : Data → LinePart → Type 0
-IsPart found (parts.Message message) = read_message found ≡ Ok message
-IsPart found (parts.Number number) = (found ≡ whole number) × (number < 2 ^ 32)
-IsPart found (parts.Text text) = found ≡ string text.now
+IsPart found (Message message) = read_message found ≡ Ok message
+IsPart found (Number number) = (found ≡ whole number) × (number < 2 ^ 32)
+IsPart found (Text text) = found ≡ string text
 
--- a field, and what stands there
-abbrev pub entry : LineField → LinePart → LineEntry
-entry field part = record { field = field; part = part }
+-- what was met in a field
+abbrev pub met_of : LineFields → LineField → Option LinePart
+met_of met fields.Do = option_map (λ text. Text text.now) met.asked
+met_of met fields.From = option_map Number met.from
+met_of met fields.Gtin = option_map (λ text. Text text.now) met.gtin
+met_of met fields.Message = option_map Message met.message
+met_of met fields.Number = option_map Number met.number
+met_of met fields.Party = option_map Number met.party
+met_of met fields.Q = option_map Number met.q
+met_of met fields.Serial = option_map (λ text. Text text.now) met.serial
+met_of met fields.To = option_map Number met.to
+met_of met other = None
 
--- the name of the field
-abbrev pub entry_name : LineEntry → List ℕ
-entry_name met = field_name met.field
+-- a value is what was met in a field
+abbrev pub IsMet : LineFields → Data → LineField → Type 0
+IsMet met found field = (part : LinePart) × (met_of met field ≡ Some part) × IsPart found part
 
--- an object has these fields, and no other
-abbrev pub HasEntries : Data → List LineEntry → Type 0
-HasEntries found entries = HasMet entry_name (λ part met. IsPart part met.part) found entries
+-- no field was met but these
+abbrev pub AreAll : LineFields → List LineField → Type 0
+AreAll met named = (field : LineField) → is_some (met_of met field) ≡ true → Contains named field
+
+-- an object has the fields that were met, and no other
+abbrev pub HasFields : Data → LineFields → Type 0
+HasFields found met = (named : List LineField) × HasMet field_name (IsMet met) found named × AreAll met named
+
+-- the field was met now, and no other: this stands in it
+pub record Meets (old : LineFields) (field : LineField) (part : LinePart) (new : LineFields) : Type 0 where
+  pub free : met_of old field ≡ None
+  pub met : met_of new field ≡ Some part
+  pub others : (other : LineField) → (other ≡ field) ⊎ (met_of new other ≡ met_of old other)
 
 -- the tokens are a value that says this part, then the rest
 abbrev pub BeginWithPart : List Token → LinePart → List Token → Type 0
 BeginWithPart ts part rest = (found : Data) × BeginWith 2 ts found rest × IsPart found part
 
--- the tokens are an object that has these fields, and no other, then the rest
-abbrev pub BeginWithEntries : List Token → List LineEntry → List Token → Type 0
-BeginWithEntries ts entries rest = (found : Data) × BeginWith 3 ts found rest × HasEntries found entries
+-- the tokens are an object that has the fields that were met, and no other, then the rest
+abbrev pub BeginWithFields : List Token → LineFields → List Token → Type 0
+BeginWithFields ts met rest = (found : Data) × BeginWith 3 ts found rest × HasFields found met
 
 -- what a reading of an object gives is told by its fields
-abbrev pub Tells : {A : Type 0} → (Data → Result A LineFault) → List LineEntry → A → Type 0
-Tells reading entries x = (value : Data) → HasEntries value entries → reading value ≡ Ok x
-
--- what an object that has these fields tells of this one, in which this part was met
-abbrev pub TellsPart : List LineEntry → LineField → LinePart → Type 0
-TellsPart entries field (parts.Message message) = (field ≡ fields.Message) → Tells message_at entries message
-TellsPart entries field (parts.Number number) = Tells (number_at field) entries number
-TellsPart entries field (parts.Text text) = Tells (text_at field) entries text.now
+abbrev pub Tells : {A : Type 0} → (Data → Result A LineFault) → LineFields → A → Type 0
+Tells reading met x = (value : Data) → HasFields value met → reading value ≡ Ok x
 
 -- the object is that value
 abbrev pub Stands : Data → LineObject → Type 0
-Stands value (objects.Met entries) = HasEntries value entries.now
+Stands value (objects.Met met) = HasFields value met.now
 Stands value (objects.Value said) = value ≡ view said.now
 
 -- a reading of the object gives this, or want of memory stands in its place

@@ -1,0 +1,146 @@
+-- What stands in the fields of a line: its tokens, and what it asks.
+use Rattle.mv_format.proofs.Words.{All, AreMet, Contains, Contains-append_left, Contains-push, Data, IsUtf8, LineField, LineKind, List, None, Ok, Option, Request, Some, Token, [], all_met, ap, arith, as_object, begin_object, begun_shorter, converted_some, end_object, field_name, get, IfSome, inl, inr, option_map, string, text_begins, is_some, key, keys_of, kind_at, kind_named, known_only, length, lt-ltb, message_at, names_of, nat_tests, none_met, none_unknown, number_at, one_more_met, read_line, read_request, refl, request_at, stands, subst, sym, text_at, tokens, true, unsigned, whole, whole_begins, ℕ, ◌++◌, ◌<◌, ◌^◌, ◌∙◌, ◌∷◌, ◌≡◌, ◌≢◌, ◌⊎◌, utf8_test, AreAll, Asks, asked_by, BeginWithFields, BeginWithPart, HasFields, IsMet, IsPart, LinePart, Meets, Message, Number, Text, met_of, shape_of}
+use Rattle.mv_format.specs.declared.line_fields.LineFields.{LineFields}
+use Rattle.json.specs.Json.{value}
+use Rattle.mv_message.specs.declared.message.Message.{Message as AMessage}
+use Rattle.serde_json.specs.Read.{number_of}
+use Rattle.mv_json.specs.inside.Parts.{IsOneOf}
+use Rattle.json.specs.Token as token
+use Rattle.mv_format.specs.declared.field.LineField.TheVariants as fields
+
+-- ---- tokens
+
+-- a value that is a whole number of 32 bits
+pub number_says : (ts rest : List Token) (n : ℕ) (text : List ℕ) → ts ≡ token.number text ∷ rest → number_of text ≡ Some (unsigned n) → n < 2 ^ 32
+    → BeginWithPart ts (Number n) rest
+number_says ts rest n text is numbered within = (whole n, rw is (whole_begins 2 n text rest numbered), (refl, within))
+
+-- ---- names
+
+-- two fields have two names
+name_apart : (f g : LineField) → f ≢ g → field_name f ≡ field_name g → ⊥
+name_apart f g apart same = grind (arith, nat_tests)
+
+-- ---- fields that are met
+
+-- the tokens up to there are members that have the fields that were met, and no other
+abbrev pub AreFields : List Token → LineFields → List Token → Type 0
+AreFields start met rest = (named : List LineField) × AreMet field_name (IsMet met) 2 start named rest × AreAll met named
+
+-- a field that was not met is none that was
+not_met : (met : LineFields) (field : LineField) → met_of met field ≡ None → is_some (met_of met field) ≡ true → ⊥
+not_met met field none some = grind arith
+
+pub no_field : (start : List Token) (met : LineFields) → ((field : LineField) → met_of met field ≡ None) → AreFields start met start
+no_field start met none = ([], none_met field_name (IsMet met) 2 start, λ field is. absurd (not_met met field (none field) is))
+
+-- a field that was met before still is
+other_kept : (old new : LineFields) (field other : LineField) → (other ≡ field) ⊎ (met_of new other ≡ met_of old other) → other ≢ field
+    → met_of new other ≡ met_of old other
+other_kept old new field other (inl same) apart = absurd (apart same)
+other_kept old new field other (inr kept) apart = kept
+
+-- with a field more, all are there that were met
+among_more : (old new : LineFields) (field other : LineField) (named : List LineField) → (other ≡ field) ⊎ (met_of new other ≡ met_of old other)
+    → AreAll old named → is_some (met_of new other) ≡ true → Contains (named ++ field ∷ []) other
+among_more old new field other named (inl same) all there = subst (Contains (named ++ field ∷ [])) (sym same) (Contains-push named field)
+among_more old new field other named (inr kept) all there = Contains-append_left named (field ∷ []) other (all other (rw kept at there))
+
+-- a field that was not met is none of those that were
+apart_from : (met : LineFields) (field other : LineField) (part : LinePart) → met_of met field ≡ None → met_of met other ≡ Some part → other ≢ field
+apart_from met field other part free stood = grind arith
+
+pub one_more_field : (start more rest : List Token) (old new : LineFields) (field : LineField) (part : LinePart)
+    → AreFields start old (key (field_name field) ∷ more) → BeginWithPart more part rest → Meets old field part new → AreFields start new rest
+one_more_field start more rest old new field part (named, are, all) (found, begins, is) meets =
+    let apart : All (λ other. other ≢ field) named = λ k d h.
+    let (there, at, (was, stood, so)) = are.says k d h in apart_from old field _ was meets.free stood in
+    let kept : AreMet field_name (IsMet new) 2 start named (key (field_name field) ∷ more) = record {
+      members = are.members;
+      come = are.come;
+      says = λ k d h.
+          let (there, at, (was, stood, so)) = are.says k d h in
+          (there, at, (was, other_kept old new field _ (meets.others _) (apart k d h) ∙ stood, so));
+      only = are.only;
+    } in (
+      named ++ field ∷ [],
+      one_more_met field_name (IsMet new) 2 start more rest named (named ++ field ∷ []) field found kept begins (part, meets.met, is)
+          (refl, λ k d h. name_apart _ field (apart k d h)),
+      λ other there. among_more old new field other named (meets.others other) all there,
+    )
+
+pub all_fields : (start rest : List Token) (met : LineFields) → AreFields start met (end_object ∷ rest) → BeginWithFields (begin_object ∷ start) met rest
+all_fields start rest met (named, are, all) =
+    let (found, begins, has) = all_met field_name (IsMet met) 2 start rest named are in (found, begins, (named, has, all))
+
+-- a part takes tokens
+pub part_shorter : (ts rest : List Token) (part : LinePart) → BeginWithPart ts part rest → length rest < length ts
+part_shorter ts rest part (found, begins, says) = begun_shorter 2 ts rest found begins
+
+-- ---- what a field is read as
+
+some_same : {A : Type 0} (x y : A) → Some x ≡ Some y → x ≡ y
+some_same x y e = grind arith
+
+-- what was met in a field stands there
+there_is : (value : Data) (met : LineFields) (field : LineField) (part : LinePart) → met_of met field ≡ Some part → HasFields value met
+    → (there : Data) × (get (field_name field) value ≡ Some there) × IsPart there part
+there_is value met field part is (named, has, all) =
+    let (there, at, (was, stood, so)) = stands field has (all field (rw is refl)) in
+    (there, at, subst (IsPart there) (some_same was part (sym stood ∙ is)) so)
+
+-- so a text is what its field is read as
+pub text_told : (met : LineFields) (field : LineField) (text : List ℕ) → met_of met field ≡ Some (Text text) → (value : Data) → HasFields value met
+    → text_at field value ≡ Ok text
+text_told met field text is value has = let (there, at, so) = there_is value met field (Text text) is has in rw (at, so)
+
+-- and its kind, where it is that of `do`
+pub kind_told : (met : LineFields) (text : List ℕ) (kind : LineKind) → met_of met fields.Do ≡ Some (Text text) → kind_named text ≡ Some kind
+    → (value : Data) → HasFields value met → kind_at value ≡ Ok kind
+unfolding kind_at
+kind_told met text kind is named value has = rw (text_told met fields.Do text is value has, named)
+
+-- a number
+pub number_told : (met : LineFields) (field : LineField) (n : ℕ) → met_of met field ≡ Some (Number n) → (value : Data) → HasFields value met
+    → number_at field value ≡ Ok n
+unfolding number_at
+number_told met field n is value has = let (there, at, (so, within)) = there_is value met field (Number n) is has in rw (at, so, lt-ltb _ _ within)
+
+-- and a message
+pub message_told : (met : LineFields) (message : AMessage) → met.message ≡ Some message → (value : Data) → HasFields value met → message_at value ≡ Ok message
+unfolding message_at
+message_told met message is value has = let (there, at, so) = there_is value met fields.Message (Message message) (rw is refl) has in rw (at, so)
+
+-- ---- what a line asks
+
+-- an object that has no other field than those of its kind asks what they do
+pub request_read : (value : Data) (met : LineFields) (kind : LineKind) (request : Request) → HasFields value met
+    → ((field : LineField) → is_some (met_of met field) ≡ true → IsOneOf (fields.Do ∷ (shape_of kind).0) field) → kind_at value ≡ Ok kind
+    → asked_by kind value ≡ Ok request → read_request value ≡ Ok request
+unfolding read_request request_at
+request_read value met kind request (named, has, all) among is asks =
+    let known_fields : All (IsOneOf (fields.Do ∷ (shape_of kind).0)) named = λ k d h. let (there, at, (was, stood, so)) = has.says k d h in among _ (rw stood refl) in
+    let (members, is_object, known) = known_only field_name (λ field. field) (fields.Do ∷ (shape_of kind).0) has known_fields in
+    let opened : as_object value ≡ Some members = ap as_object is_object in
+    rw (opened, is, none_unknown (names_of kind) (keys_of members) known) asks
+
+-- the line asks what its tokens ask
+pub line_asks : (s : List ℕ) (request : Request) → IsUtf8 s → Asks (tokens s) request [] → read_line s ≡ Ok request
+line_asks s request utf8 (found, begins, asks) = grind (arith, nat_tests, converted_some, utf8_test)
+
+-- ---- what a place holds
+
+-- a text was put in
+pub text_put : {A : Type 0} (text_of : A → List ℕ) (ts rest : List Token) (before after value : Option A) → before ≡ None
+    → (after ≡ value) × (is_some value ≡ true) → IfSome value (λ x. ts ≡ token.string (text_of x) ∷ rest)
+    → (part : LinePart) × BeginWithPart ts part rest × (option_map (λ x. Text (text_of x)) before ≡ None) × (option_map (λ x. Text (text_of x)) after ≡ Some part)
+text_put text_of ts rest before after (Some x) none put is =
+    (Text (text_of x), (string (text_of x), rw is (text_begins 2 (text_of x) rest), refl), rw none refl, rw put.0 refl)
+text_put text_of ts rest before after None none put is = absurd (grind (arith, put.1))
+
+-- a number, or a message
+pub part_put : {A : Type 0} (make : A → LinePart) (ts rest : List Token) (before after value : Option A) → before ≡ None → (after ≡ value) × (is_some value ≡ true)
+    → IfSome value (λ x. BeginWithPart ts (make x) rest)
+    → (part : LinePart) × BeginWithPart ts part rest × (option_map make before ≡ None) × (option_map make after ≡ Some part)
+part_put make ts rest before after (Some x) none put is = (make x, is, rw none refl, rw put.0 refl)
+part_put make ts rest before after None none put is = absurd (grind (arith, put.1))

@@ -77,8 +77,7 @@ pub order_of : (log : List LogEntry) → IsOrderOf log (ordered log)
 order_of = by_entries (λ log. IsOrderOf log (ordered log)) (record { entries = tt; ascends = tt; count = refl }) more
   where
     more : (log : List LogEntry) (entry : LogEntry) → IsOrderOf log (ordered log) → IsOrderOf (log ++ entry ∷ []) (ordered (log ++ entry ∷ []))
-    more log entry order =
-        let x = placed_at (length log) entry in
+    more log entry order = let x = placed_at (length log) entry in
         let stay : AreOf (log ++ entry ∷ []) (ordered log) = map-all _ (λ one. slice_get (log ++ entry ∷ []) one.place ≡ Some one.entry) (λ one e. grind (arith, gets, get_or_append_left, length-append)) (ordered log) order.entries in
         subst (IsOrderOf (log ++ entry ∷ [])) (sym (fold-append _ [] log (entry ∷ []) ∙ ap (λ place. put_in (placed_at place entry) (ordered log)) order.count)) (record {
           entries = put-all _ x (ordered log) (grind (arith, gets, get_or_push, length-append)) stay;

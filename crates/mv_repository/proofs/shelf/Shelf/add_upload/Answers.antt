@@ -3,8 +3,7 @@ use Rattle.mv_repository.proofs.Lemmas.{◌≡◌, ◌+◌, ◌∷◌, AreSlots,
 use Rattle.mv_repository.proofs.shelf.Shelf.add_upload.Goals as goal
 
 pub loop-index-init : goal.loop-index-init
-loop-index-init c =
-    let whole = c.args.newest.now.log.now in
+loop-index-init c = let whole = c.args.newest.now.log.now in
     let place = c.args.newest.now.place in
     let hashes = (λ i. (c.touch.ensures i).hashes) ∙ c.reserve.ensures.hashes in
     let longer = subst (λ (table : SlotTable). AreSlots whole table × IsShelfOf (take place whole) c.args.gtin.now (record { slots = keyed whole table.names table.slots; tracks = c.self.inside.tracks.items; listing = c.self.inside.listing }))
@@ -18,8 +17,7 @@ put_upload-is_first-requires-clause-named c =
     ∙ slice_get-get_or c.args.serials.now c.loop-index.index c.index-serials-index.result c.loop-index-test.true ∙ ap Some (sym c.index-serials-index.is)
 
 pub loop-index-preserved : goal.loop-index-preserved
-loop-index-preserved c =
-    let whole = c.args.newest.now.log.now in
+loop-index-preserved c = let whole = c.args.newest.now.log.now in
     let place = c.args.newest.now.place in
     let at = c.loop-index.index in
     let old = shelf_by whole c.loop-index.self in
@@ -43,8 +41,7 @@ loop-index-preserved c =
     }
 
 pub returns-clause-ok : goal.returns-clause-ok
-returns-clause-ok c =
-    let whole = c.args.newest.now.log.now in
+returns-clause-ok c = let whole = c.args.newest.now.log.now in
     let place = c.args.newest.now.place in
     let all : take c.loop-index.index c.args.serials.now ≡ c.args.serials.now = take_all c.loop-index.index c.args.serials.now (omega arith) in
     let upload = c.requires.upload in

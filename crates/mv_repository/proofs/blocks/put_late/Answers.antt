@@ -32,3 +32,6 @@ pass_on-requires-clause-cut c = c.cut_at-cut.ensures.cut (without c.args.own.now
 
 pub returns-then-at-own-clause-by : goal.returns-then-at-own-clause-by
 returns-then-at-own-clause-by c = grind (arith, common_steps)
+
+pub pass_on-requires-clause-inside : goal.pass_on-requires-clause-inside
+pass_on-requires-clause-inside c = c.cut_at-cut.ensures.inside (omega arith)

@@ -9,6 +9,3 @@ loop-place-preserved c =
 
 pub pass-requires : goal.pass-requires
 pass-requires c = grind (arith, common_steps)
-
-pub returns-clause-summary : goal.returns-clause-summary
-returns-clause-summary c = grind (arith, common_steps)

@@ -37,6 +37,3 @@ returns-in_default-clause-err c = grind (arith, common_steps)
 
 pub invariant_of-self-in_default : goal.invariant_of-self-in_default
 invariant_of-self-in_default c = grind (arith, common_steps)
-
-pub invariant_of-self-in_err-reserve-2 : goal.invariant_of-self-in_err-reserve-2
-invariant_of-self-in_err-reserve-2 c = grind (arith, common_steps)

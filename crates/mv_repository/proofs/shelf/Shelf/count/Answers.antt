@@ -4,6 +4,3 @@ use Rattle.mv_repository.proofs.shelf.Shelf.count.Goals as goal
 
 pub loop-slot-preserved : goal.loop-slot-preserved
 loop-slot-preserved c = grind (arith, common_steps)
-
-pub returns : goal.returns
-returns c = grind (arith, common_steps)

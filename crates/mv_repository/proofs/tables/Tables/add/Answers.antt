@@ -76,3 +76,9 @@ returns-in_default-clause-ok c =
 pub returns-in_default-message-clause-ok : goal.returns-in_default-message-clause-ok
 returns-in_default-message-clause-ok c =
     tables-noted c.args.log.now c.args.place c.requires.last c.args.self.now (other-noted (get_or c.args.log.now c.args.place no_entry).item c.in-Some.message.now (sym c.in-Some.ensures) c.in_default-message.not-Master c.in_default-message.not-Upload c.in_default-message.not-Status c.in_default-message.not-Recall c.in_default-message.not-Withdraw) c.requires.tables
+
+pub add_upload-requires-clause-upload : goal.add_upload-requires-clause-upload
+add_upload-requires-clause-upload c = upload-in (get_or c.args.log.now c.args.place no_entry).item c.in-Some.message.now _ _ _ _ _ _ c.in-Some.ensures c.in-Upload.is c.as_slice-serials.ensures
+
+pub add_status-requires-clause-own : goal.add_status-requires-clause-own
+add_status-requires-clause-own c = status-in (get_or c.args.log.now c.args.place no_entry).item c.in-Some.message.now _ _ _ _ c.in-Some.ensures c.in-Status.is

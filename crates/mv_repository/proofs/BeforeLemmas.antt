@@ -57,8 +57,7 @@ stay-none x [] = tt
 stay-none x (y ∷ ys) = grind (arith, nat_tests, stay-none x ys)
 
 standing-same : (x y : Placed) (xs : List Placed) → Ascends xs → passes x y ≡ false → standing_at (first_stops (filter (stays_before x) xs)) y ≡ standing_at (first_stops xs) y
-standing-same x y xs a e =
-    let sees : (f : Placed → Bool) → is_before (find f (filter (stays_before x) xs)) y ≡ is_before (find f xs) y =
+standing-same x y xs a e = let sees : (f : Placed → Bool) → is_before (find f (filter (stays_before x) xs)) y ≡ is_before (find f xs) y =
     λ f. grind (arith, nat_tests, find-counted f x xs a) in
     (λ i batch. record { recalled = sees (λ placed. is_recall_of batch placed.entry.item) i; withdrawn = sees (λ placed. is_withdrawal_of batch.gtin placed.entry.item) i })
 
@@ -76,8 +75,7 @@ grown-same stops stops' pack x birth own same n = grind (arith, nat_tests, fold-
 -- a pack by the entries before one that comes last
 pub known-before : (log : List LogEntry) (entry : LogEntry) (pack : PackKey) → known_pack pack (entries_before log entry)
     ≡ pack_grown (first_stops (ordered log)) pack (counted (newest log entry) (first_upload pack (ordered log))) (filter (stays_before (newest log entry)) (statuses_of pack (ordered log)))
-known-before log entry pack =
-    let x = newest log entry in
+known-before log entry pack = let x = newest log entry in
     let xs = ordered log in
     let a = ordered-ascends log in
     let own : statuses_of pack (entries_before log entry) ≡ filter (stays_before x) (statuses_of pack xs) = filter-swap (λ placed. is_status_of pack placed.entry.item) (stays_before x) xs in

@@ -33,8 +33,7 @@ pub covered-more : (entry : ℕ → Placed) (reverters more : PartySet) (own : L
     → IsCovered more (entry (get_or own i 0)) → AllByRecursion (λ place. IsCovered reverters (entry place)) (take i own) → AllByRecursion (λ place. IsCovered more (entry place)) (take (i + 1) own)
 covered-more entry reverters more [] i l m new c = absurd (omega arith)
 covered-more entry reverters more (x ∷ xs) zero l m new c = (new, tt)
-covered-more entry reverters more (x ∷ xs) (suc i) l m new c =
-    let e : suc (i + 1) ≡ suc i + 1 = omega arith in
+covered-more entry reverters more (x ∷ xs) (suc i) l m new c = let e : suc (i + 1) ≡ suc i + 1 = omega arith in
     subst (λ (n : ℕ). AllByRecursion (λ place. IsCovered more (entry place)) (take n (x ∷ xs))) e (λ a. m (entry x).entry.sender (c.0 a), covered-more entry reverters more xs i (omega arith) m new c.1)
 
 -- a block is worked out again, and what stands behind it
@@ -78,8 +77,7 @@ module _ (entry : ℕ → Placed) (next : ℕ → ℕ → ℕ) (start : ℕ) (is
     pass-behind = grind (arith, nat_tests, common_steps)
 
     pub pass-front : (all : List ℕ) → IsFront entry next start (take number bs) all last rest → IsFront entry next start (take (number + 1) (set bs number written)) all passed (drop b.count rest)
-    pass-front all front more h =
-        subst (λ (t : List Block). AreBlocks entry next start start t all) (sym (set-take bs more number written l))
+    pass-front all front more h = subst (λ (t : List Block). AreBlocks entry next start start t all) (sym (set-take bs more number written l))
         (front (written ∷ more) (subst (λ (x : Block).
         AreBlocks entry next start last (record { count = x.count; of_active = x.of_active; after = passed; reverters = x.reverters } ∷ more) rest) (sym same) (
           here.0,
@@ -96,8 +94,7 @@ module _ (entry : ℕ → Placed) (next : ℕ → ℕ → ℕ) (start : ℕ) (is
   module _ (bs : List Block) (own : List ℕ) (at : ℕ) (cut : Cut) (l : at < length own) (le : cut.start ≤ at) (c : IsCut entry next start bs (without own at) cut) where
     -- how the pack stands in front of it
     pub late-before : fold next cut.by (take (at - cut.start) (drop cut.start own)) ≡ fold next start (take at own)
-    late-before =
-        let whole : cut.start + (at - cut.start) ≡ at = omega arith in
+    late-before = let whole : cut.start + (at - cut.start) ≡ at = omega arith in
         grind (arith, nat_tests, fold-append, take-add cut.start (at - cut.start) own, take-without)
 
     pub late-front : IsFront entry next start (take cut.number bs) own cut.by (drop cut.start own)

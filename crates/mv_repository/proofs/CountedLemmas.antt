@@ -30,8 +30,7 @@ distinct-append : (es fs : List (PackKey × Kept)) → IsDistinct is_same_pack (
     → ((q : PackKey) → is_some (lookup (is_same_pack q) es) ≡ true → lookup (is_same_pack q) fs ≡ None) → IsDistinct is_same_pack (keys_of (es ++ fs))
 unfolding IsDistinct
 distinct-append [] fs d e h = e
-distinct-append (one ∷ es) fs d e h =
-    let own = absent (is_same_pack one.0) es d.0 in
+distinct-append (one ∷ es) fs d e h = let own = absent (is_same_pack one.0) es d.0 in
     let rest = distinct-append es fs d.1 e (λ q m. h q (grind (arith, nat_tests))) in
     (absent_from_lookup (is_same_pack one.0) (es ++ fs) (grind (arith, nat_tests, h one.0, lookup-append, own, pack-self)), rest)
 
@@ -56,8 +55,7 @@ module _ (log : List LogEntry) where
       → IsDistinct is_same_pack (keys_of (packs_of gtin parts slots))
   unfolding IsDistinct
   shelf-distinct gtin parts [] d = tt
-  shelf-distinct gtin parts (slot ∷ slots) d =
-      let serial = serial_of log parts.table.names slot in
+  shelf-distinct gtin parts (slot ∷ slots) d = let serial = serial_of log parts.table.names slot in
       let none = absent (bytes_eq serial) (keyed_on parts slots) d.0 in
       let away = absent_from_lookup (is_same_pack (pack_key gtin serial)) (packs_of gtin parts slots) (grind (arith, nat_tests, none, shelf-found)) in
       (away, shelf-distinct gtin parts slots d.1)
@@ -70,23 +68,20 @@ module _ (log : List LogEntry) where
 
   later : (s : List ℕ × ShelfParts) (rest : List (List ℕ × ShelfParts)) → IsDistinct bytes_eq (s.0 ∷ keys_of rest) → (gtin : List ℕ)
       → bytes_eq gtin s.0 ≡ true → lookup (bytes_eq gtin) rest ≡ None
-  later s rest d gtin e =
-      let none = absent (bytes_eq s.0) rest (IsDistinct-head bytes_eq s.0 (keys_of rest) d) in
+  later s rest d gtin e = let none = absent (bytes_eq s.0) rest (IsDistinct-head bytes_eq s.0 (keys_of rest) d) in
       subst (λ (one : List ℕ). lookup (bytes_eq one) rest ≡ None) (sym (same_text gtin s.0 (sym e))) none
 
   packs-found : (shelves : List (List ℕ × ShelfParts)) → IsDistinct bytes_eq (keys_of shelves) → (q : PackKey)
       → unwrap_or (lookup (is_same_pack q) (packs_in shelves)) nothing_kept ≡ kept_in (shelf_by log (shelf_of q.gtin shelves)) q.serial
   packs-found [] d q = refl
-  packs-found (s ∷ rest) d q =
-      let behind = packs-found rest (IsDistinct-tail bytes_eq s.0 (keys_of rest) d) q in
+  packs-found (s ∷ rest) d q = let behind = packs-found rest (IsDistinct-tail bytes_eq s.0 (keys_of rest) d) q in
       grind (arith, nat_tests, behind, elsewhere rest q, later s rest d q.gtin, lookup-append, shelf-found)
 
   packs-distinct : (shelves : List (List ℕ × ShelfParts)) → IsDistinct bytes_eq (keys_of shelves)
       → AllByRecursion (λ shelf. AreSlots log shelf.1.table) shelves → IsDistinct is_same_pack (keys_of (packs_in shelves))
   unfolding IsDistinct
   packs-distinct [] d are = tt
-  packs-distinct (s ∷ rest) d are =
-      let own = shelf-distinct s.0 s.1 s.1.table.slots are.0.distinct in
+  packs-distinct (s ∷ rest) d are = let own = shelf-distinct s.0 s.1 s.1.table.slots are.0.distinct in
       distinct-append (packs_of s.0 s.1 s.1.table.slots) (packs_in rest) own (packs-distinct rest d.1 are.1)
       (λ q m. elsewhere rest q (later s rest d q.gtin (grind (arith, nat_tests, shelf-found))))
 
@@ -108,16 +103,14 @@ module _ (log : List LogEntry) where
     same-counted : (tables : Tables) (q : PackKey) (o : Option Kept) → AreTablesOf log tables
         → unwrap_or o nothing_kept ≡ kept_in (shelf_by log (shelf_of q.gtin tables.shelves.entries)) q.serial
         → is_some (option_filter (is_counted counted) o) ≡ (is_member is_same_pack (uploaded_packs log) q && is_counted counted (kept_of (life_of q log)))
-    same-counted tables q o are e =
-        let kept = ((are.shelves q.gtin).shelf.packs q.serial).kept.bare in
+    same-counted tables q o are e = let kept = ((are.shelves q.gtin).shelf.packs q.serial).kept.bare in
         grind (arith, nat_tests, kept, uploaded-found log q)
 
     -- the packs that are counted shelf by shelf are those that a log has
     all-counted : (tables : Tables) → AreTablesOf log tables → IsDistinct bytes_eq (keys_of tables.shelves.entries)
         → slots_in counted tables.shelves.entries
         ≡ distinct_count is_same_pack (filter (λ pack. is_counted counted (kept_of (life_of pack log))) (uploaded_packs log))
-    all-counted tables are d =
-        let shelves = tables.shelves.entries in
+    all-counted tables are d = let shelves = tables.shelves.entries in
         let test : PackKey → Bool = λ pack. is_counted counted (kept_of (life_of pack log)) in
         let distinct = packs-distinct shelves d (recursion_from_All (λ shelf. AreSlots log shelf.1.table) shelves (λ k s l.
         let own = get_or shelves k s in
@@ -136,8 +129,7 @@ module _ (log : List LogEntry) where
     pub counted-whole : (tables : Tables) (count : ℕ) → AreTablesOf log tables → IsDistinct bytes_eq (keys_of tables.shelves.entries)
         → tables.named < 2 ^ 64 → count ≡ min (slots_in counted tables.shelves.entries) (2 ^ 64 - 1)
         → count ≡ distinct_count is_same_pack (filter (λ pack. is_counted counted (kept_of (life_of pack log))) (uploaded_packs log))
-    counted-whole tables count are d fits e =
-        grind (arith, nat_tests, all-counted, count_by-le-length, distinct_count-le, length-filter)
+    counted-whole tables count are d fits e = grind (arith, nat_tests, all-counted, count_by-le-length, distinct_count-le, length-filter)
 
 -- the packs that are held are those that the log names
 pub held-all : (log : List LogEntry)
@@ -177,8 +169,7 @@ module _ (log : List LogEntry) (pack : PackKey) where
   of-birth : (birth : Option Placed) → IfSome birth (λ x. get_or log x.place no_entry ≡ x.entry)
       → option_and_then (λ (first : ℕ). option_map held_of (known_at (entry_at log first) (entry_at log (last birth)))) (option_map place_of birth) ≡ option_map held_of (pack_grown S pack birth own)
   of-birth None s = refl
-  of-birth (Some y) s =
-      (λ i. option_map held_of (known_at (entry-stands log y s i) (fold-stands log S pack.gtin y own s own-stand i)))
+  of-birth (Some y) s = (λ i. option_map held_of (known_at (entry-stands log y s i) (fold-stands log S pack.gtin y own s own-stand i)))
       ∙ ap (option_map held_of) (sym (grown-by S pack y own))
 
   -- a pack is what stands by its last step

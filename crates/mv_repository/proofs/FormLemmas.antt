@@ -64,8 +64,7 @@ module _ (whole : List LogEntry) (place : ℕ) (l : length whole ≡ place + 1) 
   -- what is kept of packs, where the entry names none and the first stops are as they were
   pub shelves-at : (shelves : List (List ℕ × ShelfParts)) → NoPack entry.item → first_stops (ordered whole) ≡ first_stops (ordered log)
       → ((gtin : List ℕ) → AreShelfOf log gtin (shelf_of gtin shelves)) → (gtin : List ℕ) → AreShelfOf whole gtin (shelf_of gtin shelves)
-  shelves-at shelves none same are gtin =
-      let split = log-split whole place l in
+  shelves-at shelves none same are gtin = let split = log-split whole place l in
       shelf-kept whole place gtin (shelf_of gtin shelves) ((λ serial. grind (arith, nat_tests, life-same, none.0)), serials-at whole place gtin [] l (none.2 gtin)) (are gtin)
 
   pub named-at : (named : ℕ) → uploaded_in entry.item ≡ [] → named ≡ length (uploaded_packs log) → named ≡ length (uploaded_packs whole)
@@ -74,13 +73,12 @@ module _ (whole : List LogEntry) (place : ℕ) (l : length whole ≡ place + 1) 
   -- the tables, where the entry is a master
   pub tables-mastered : (old new : Tables) (gtin : List ℕ) → is_master gtin entry.item ≡ true → AreTablesOf log old → AreMastersOf whole new.masters.entries
       → new.stops ≡ old.stops → new.shelves ≡ old.shelves → new.named ≡ old.named → AreTablesOf whole new
-  tables-mastered old new gtin own are masters stops shelves named =
-      let form = master-form gtin entry.item own in record {
-        masters = masters;
-        stops = subst (AreStopsOf whole) (sym stops) (stops-at old.stops form.1 are.stops);
-        shelves = λ other. subst (AreShelfOf whole other) (λ i. shelf_of other (sym shelves i).entries) (shelves-at old.shelves.entries form.0 (same-at form.1) are.shelves other);
-        named = named ∙ named-at old.named form.0.1 are.named;
-      }
+  tables-mastered old new gtin own are masters stops shelves named = let form = master-form gtin entry.item own in record {
+    masters = masters;
+    stops = subst (AreStopsOf whole) (sym stops) (stops-at old.stops form.1 are.stops);
+    shelves = λ other. subst (AreShelfOf whole other) (λ i. shelf_of other (sym shelves i).entries) (shelves-at old.shelves.entries form.0 (same-at form.1) are.shelves other);
+    named = named ∙ named-at old.named form.0.1 are.named;
+  }
 
   -- the tables, where the entry is no master and the shelf of one product is written
   pub tables-follow : (old new : Tables) (gtin : List ℕ) (shelf : ShelfParts) → NoMaster entry.item → AreTablesOf log old → new.masters.entries ≡ old.masters.entries → AreStopsOf whole new.stops

@@ -164,8 +164,7 @@ module _ (pack : PackKey) where
     pack-told : (before xs : List Placed) (known : Option KnownPack) → KeepsAll (batch_of (known_pack_from before xs pack known))
         → option_map unplaced (known_pack_from before xs pack known) ≡ known_pack_from (told before) (told xs) pack (option_map unplaced known)
     pack-told before [] known all = refl
-    pack-told before (x ∷ xs) known all =
-        let batch = batch_of (known_pack_from before (x ∷ xs) pack known) in
+    pack-told before (x ∷ xs) known all = let batch = batch_of (known_pack_from before (x ∷ xs) pack known) in
         pack-told (before ++ x ∷ []) xs (pack_after_item (batch_standing before) x.place x.entry.sender x.entry.item pack known) all
         ∙ one-told before xs x.place x.entry.sender x.entry.item known batch all
         (λ held e. grind (arith, nat_tests, batch-stays before (x ∷ xs) known held e, stands-told batch all before))
@@ -173,8 +172,7 @@ module _ (pack : PackKey) where
 -- two logs agree on a pack where they carry, in order, the same of what is kept, and all is kept that bears on the pack
 agree-by : (pack : PackKey) (kept kept' : Sent → Bool) (one other : List LogEntry) → KeepsAll pack kept (batch_in pack one)
     → KeepsAll pack kept' (batch_in pack other) → filter kept (sent_by (ordered one)) ≡ filter kept' (sent_by (ordered other)) → AgreeOn pack one other
-agree-by pack kept kept' one other all all' same =
-    let told-same : told pack kept (ordered one) ≡ told pack kept' (ordered other) =
+agree-by pack kept kept' one other all all' same = let told-same : told pack kept (ordered one) ≡ told pack kept' (ordered other) =
     ap (map (λ (sent : Sent). item_at 0 sent.sender (Carried 0 sent.stamp sent.message))) same in
     let state : option_map unplaced (known_pack pack (ordered one)) ≡ option_map unplaced (known_pack pack (ordered other)) =
     pack-told pack kept [] (ordered one) None all ∙ ap (known_pack pack) told-same ∙ sym (pack-told pack kept' [] (ordered other) None all') in
@@ -243,8 +241,7 @@ module _ {X : Type 0} (h : LogEntry → Option X) where
 
       more : (log : List LogEntry) (entry : LogEntry) → IsPermutation (filter_map h log) (given (ordered log))
           → IsPermutation (filter_map h (log ++ entry ∷ [])) (given (ordered (log ++ entry ∷ [])))
-      more log entry r =
-          let put = given-put_in (placed_at (length log) entry) (ordered log) in
+      more log entry r = let put = given-put_in (placed_at (length log) entry) (ordered log) in
           rw (filter_map-append, ordered-push) (IsPermutation-trans _ _ _ (front (h entry) (filter_map h log) (given (ordered log)) r) put)
 
   -- what holds of all that is given holds of what each entry gives
@@ -259,8 +256,7 @@ module _ {X : Type 0} (h : LogEntry → Option X) where
   -- each entry of one log is in another: so is all that is given
   given-also : (one other : List LogEntry) → ((entry : LogEntry) → Contains one entry → Contains other entry)
       → (y : X) → Contains (given (ordered one)) y → Contains (given (ordered other)) y
-  given-also one other also y c =
-      let P : X → Type 0 = Contains (given (ordered other)) in
+  given-also one other also y c = let P : X → Type 0 = Contains (given (ordered other)) in
       let In : LogEntry → Type 0 = λ entry. IfSome (h entry) P in
       let theirs = All-permutation P _ (filter_map h other) (IsPermutation-sym _ _ (given-ordered other)) (All-contains_itself (given (ordered other))) in
       let there = All-from_recursion In other (given-each P other (recursion_from_All P (filter_map h other) theirs)) in

@@ -58,7 +58,6 @@ answer_noted party log sender item asked known known' k stamp message form told 
 -- what is known decides the verdict, once all have answered
 pub verdict_known : (party : ℕ) (log : List LogEntry) (known : Inquiries) (q : ℕ) (inquiry : Inquiry) (parties : List ℕ) → IsInquiriesOf party log known → inquiry_in known q ≡ inquiry
     → inquiry.asked ≡ Some parties → length (filter (λ other. not (has_reply known q other)) parties) ≡ 0 → Decided (verdict_when inquiry.active inquiry.explained) ≡ joint_verdict party log q
-verdict_known party log known q inquiry parties is same e none =
-    let of : inquiry ≡ inquiry_of party log q = sym same ∙ is.inquiries q in
+verdict_known party log known q inquiry parties is same e none = let of : inquiry ≡ inquiry_of party log q = sym same ∙ is.inquiries q in
     let left : length (filter (λ other. not (has_answered party log q other)) parties) ≡ 0 = sym (λ i. length (filter (λ other. not (is.replies q other i)) parties)) ∙ none in
     cc

@@ -1,5 +1,5 @@
 -- Lemmas on the order of stamps.
-use Rattle.mv_repository.proofs.Words.{gets, All-filter, All-from_recursion, All-weaker, recursion_from_All, ◌≡◌, ◌+◌, ◌<◌, ◌∷◌, ◌++◌, slice_get, Some, get_or, ℕ, List, [], length, refl, sym, ◌∙◌, ap, append-nil, append_assoc, fold-append, length-append, get_or_push, subst, arith, Bool, true, cond_both, IfSome, Option, filter, find, nat_tests, get_or_append_left, slice_get_within, get_or_from_slice_get, AllByRecursion, last_or, LogEntry, Placed, passes, put_in, ordered, stands_before, Ascends, IsOrderOf, no_entry, IsPermutation-cons, IsPermutation-middle, IsPermutation-trans, IsPermutation}
+use Rattle.mv_repository.proofs.Words.{gets, All-filter, All-from_recursion, All-weaker, recursion_from_All, ◌≡◌, ◌+◌, ◌<◌, ◌∷◌, ◌++◌, slice_get, Some, get_or, ℕ, List, [], length, refl, sym, ◌∙◌, ap, append-nil, append_assoc, fold-append, length-append, get_or_push, subst, arith, Bool, true, cond_both, IfSome, Option, filter, find, nat_tests, get_or_append_left, slice_get_within, get_or_from_slice_get, AllByRecursion, last_or, LogEntry, Placed, passes, put_in, ordered, stands_before, Ascends, IsOrderOf, no_entry, IsPermutation-cons, IsPermutation-refl, IsPermutation-middle, IsPermutation-trans, IsPermutation}
 
 -- what holds of each holds of each that passes a test, of the first and of the last of them, and of what is put in too
 pub map-all : {A : Type 0} (P Q : A → Type 0) → ((x : A) → P x → Q x) → (xs : List A) → AllByRecursion P xs → AllByRecursion Q xs
@@ -44,7 +44,7 @@ passes_behind x y z e f = grind (arith, nat_tests)
 -- one that is put in is there, and those that were there stay
 pub put_in-permutes : (x : Placed) (xs : List Placed) → IsPermutation (x ∷ xs) (put_in x xs)
 put_in-permutes x [] = grind (arith, nat_tests)
-put_in-permutes x (y ∷ ys) = grind (arith, nat_tests, put_in-permutes x ys, IsPermutation-cons, IsPermutation-middle (x ∷ []) y ys, IsPermutation-trans)
+put_in-permutes x (y ∷ ys) = grind (arith, nat_tests, IsPermutation-refl (x ∷ y ∷ ys), IsPermutation-trans _ _ _ (IsPermutation-middle (x ∷ []) y ys) (IsPermutation-cons y _ _ (put_in-permutes x ys)))
 
 length-put_in : (x : Placed) (xs : List Placed) → length (put_in x xs) ≡ length xs + 1
 length-put_in x [] = refl
@@ -77,8 +77,7 @@ pub order_of : (log : List LogEntry) → IsOrderOf log (ordered log)
 order_of = by_entries (λ log. IsOrderOf log (ordered log)) (record { entries = tt; ascends = tt; count = refl }) more
   where
     more : (log : List LogEntry) (entry : LogEntry) → IsOrderOf log (ordered log) → IsOrderOf (log ++ entry ∷ []) (ordered (log ++ entry ∷ []))
-    more log entry order =
-        let x = placed_at (length log) entry in
+    more log entry order = let x = placed_at (length log) entry in
         let stay : AreOf (log ++ entry ∷ []) (ordered log) = map-all _ (λ one. slice_get (log ++ entry ∷ []) one.place ≡ Some one.entry) (λ one e. grind (arith, gets, get_or_append_left, length-append)) (ordered log) order.entries in
         subst (IsOrderOf (log ++ entry ∷ [])) (sym (fold-append _ [] log (entry ∷ []) ∙ ap (λ place. put_in (placed_at place entry) (ordered log)) order.count)) (record {
           entries = put-all _ x (ordered log) (grind (arith, gets, get_or_push, length-append)) stay;

@@ -9,8 +9,7 @@ use Rattle.mv_repository.proofs.TableLemmas.{log-split}
 -- those that the newest entry names are put in, one after another
 pub serials-at : (whole : List LogEntry) (place : ℕ) (gtin : List ℕ) (serials : List (List ℕ)) → length whole ≡ place + 1 → serials_in gtin (get_or whole place no_entry).item ≡ serials
     → serials_of whole gtin ≡ fold (insert_key bytes_eq) (serials_of (take place whole) gtin) serials
-serials-at whole place gtin serials l e =
-    ap (λ (log : List LogEntry). serials_of log gtin) (log-split whole place l)
+serials-at whole place gtin serials l e = ap (λ (log : List LogEntry). serials_of log gtin) (log-split whole place l)
     ∙ once-all bytes_eq (λ (one : LogEntry). serials_in gtin one.item) (take place whole) (get_or whole place no_entry) serials e
 
 pub upload-serials : (other gtin : List ℕ) (serials : List (List ℕ)) (item : Item) → IsUploadOf item gtin serials → serials_in other item ≡ cond (bytes_eq gtin other) serials []
@@ -43,8 +42,7 @@ no-shelf-yet gtin = record {
 -- what is kept on a shelf by the front of a log, is so by all of it
 pub shelf-longer : (whole : List LogEntry) (place : ℕ) (gtin : List ℕ) (parts : ShelfParts) → AreShelfOf (take place whole) gtin parts
     → AreSlots whole parts.table × IsShelfOf (take place whole) gtin (shelf_by whole parts)
-shelf-longer whole place gtin parts of =
-    let longer = slots-longer whole place parts.table of.slots in
+shelf-longer whole place gtin parts of = let longer = slots-longer whole place parts.table of.slots in
     (longer.0, subst (λ (slots : List (List ℕ × Slot)). IsShelfOf (take place whole) gtin (record { slots = slots; tracks = parts.tracks; listing = parts.listing })) (sym longer.1) of.shelf)
 
 -- the same but for the room
@@ -60,8 +58,7 @@ pub shelf-seen : {given parts : ShelfParts} (whole : List LogEntry) (place : ℕ
 shelf-seen {given} whole place gtin e of = shelf-longer whole place gtin given (subst (AreShelfOf (take place whole) gtin) (sym e) of)
 
 pub shelf-kept : (whole : List LogEntry) (place : ℕ) (gtin : List ℕ) (parts : ShelfParts) → AreSamePacks whole (take place whole) gtin → AreShelfOf (take place whole) gtin parts → AreShelfOf whole gtin parts
-shelf-kept whole place gtin parts same of =
-    let longer = shelf-longer whole place gtin parts of in
+shelf-kept whole place gtin parts same of = let longer = shelf-longer whole place gtin parts of in
     record { slots = longer.0; shelf = shelf-stays whole (take place whole) gtin (shelf_by whole parts) same longer.1 }
 
 -- the product has this shelf, and each other product its own

@@ -82,22 +82,20 @@ module _ (whole log : List LogEntry) (more names : List (List ℕ))
     (same : (slot : Slot) → IsNamed log names slot → IsNamed whole more slot × (serial_of whole more slot ≡ serial_of log names slot)) where
   same-keyed : (slots : List Slot) → AllByRecursion (IsNamed log names) slots → AllByRecursion (IsNamed whole more) slots × (keyed whole more slots ≡ keyed log names slots)
   same-keyed [] h = (tt, refl)
-  same-keyed (slot ∷ slots) h =
-      let one = same slot h.0 in
+  same-keyed (slot ∷ slots) h = let one = same slot h.0 in
       let rest = same-keyed slots h.1 in
       ((one.0, rest.0), λ i. (one.1 i, slot) ∷ rest.1 i)
 
   slots-same : (hashes : List ℕ) (slots : List Slot) → AreSlots log (record { hashes = hashes; slots = slots; names = names })
       → AreSlots whole (record { hashes = hashes; slots = slots; names = more }) × (keyed whole more slots ≡ keyed log names slots)
-  slots-same hashes slots are =
-      let kept = same-keyed slots are.named in (
-        record {
-          hashes = are.hashes ∙ ap (λ (l : List (List ℕ × Slot)). map serial_hash (keys_of l)) (sym kept.1);
-          named = kept.0;
-          distinct = subst (λ (l : List (List ℕ × Slot)). IsDistinct bytes_eq (keys_of l)) (sym kept.1) are.distinct;
-        },
-        kept.1,
-      )
+  slots-same hashes slots are = let kept = same-keyed slots are.named in (
+    record {
+      hashes = are.hashes ∙ ap (λ (l : List (List ℕ × Slot)). map serial_hash (keys_of l)) (sym kept.1);
+      named = kept.0;
+      distinct = subst (λ (l : List (List ℕ × Slot)). IsDistinct bytes_eq (keys_of l)) (sym kept.1) are.distinct;
+    },
+    kept.1,
+  )
 
 pub slots-longer : (whole : List LogEntry) (place : ℕ) (table : SlotTable) → AreSlots (take place whole) table
     → AreSlots whole table × (keyed whole table.names table.slots ≡ keyed (take place whole) table.names table.slots)
@@ -170,8 +168,7 @@ module _ (log : List LogEntry) (table : SlotTable) (are : AreSlots log table) (s
 
     pub written-behind : (hash : ℕ) → hash ≡ serial_hash serial → lookup (bytes_eq serial) entries ≡ None
         → IsWritten log table (record table { hashes = table.hashes ++ hash ∷ []; slots = table.slots ++ new ∷ [] }) serial new
-    written-behind hash h none =
-        is-written (table.hashes ++ hash ∷ []) (table.slots ++ new ∷ [])
+    written-behind hash h none = is-written (table.hashes ++ hash ∷ []) (table.slots ++ new ∷ [])
         (map-append (λ slot. (serial_of log table.names slot, slot)) table.slots (new ∷ []) ∙ ap (λ one. entries ++ (one, new) ∷ []) own
         ∙ sym (insert_entry-absent bytes_eq serial new entries (absent_from_lookup (bytes_eq serial) entries none)))
         (All-append (IsNamed log table.names) table.slots (new ∷ []) are.named (named, tt))

@@ -62,12 +62,10 @@ module _ {K : Type 0} (same : K → K → Bool) (is_of : K → Item → Bool) (k
 
 stop-later : (log : List LogEntry) (entry : LogEntry) (tables : Stops) (stop : Stop) → AreStopsOf log tables → is_stop stop entry.item ≡ true
     → comes_first (longer log entry) (length log) (first_place stop tables) ≡ false → first_stops (ordered (longer log entry)) ≡ first_stops (ordered log)
-stop-later log entry tables (stops.OfBatch batch) are own e =
-    let form = recall-form batch.now entry.item own in
+stop-later log entry tables (stops.OfBatch batch) are own e = let form = recall-form batch.now entry.item own in
     let later = first-later is_same_batch is_recall_of recalled_in log entry tables.recalls.entries batch.now (same_batch batch.now) (batch-self batch.now) are.recalls form.0 e in
     λ i. record { recall = λ b. later b i; withdrawal = λ gtin. find-none (λ placed. is_withdrawal_of gtin placed.entry.item) log entry (form.1 gtin) i }
-stop-later log entry tables (stops.OfProduct gtin) are own e =
-    let form = withdrawal-form gtin.now entry.item own in
+stop-later log entry tables (stops.OfProduct gtin) are own e = let form = withdrawal-form gtin.now entry.item own in
     let later = first-later bytes_eq is_withdrawal_of withdrawn_in log entry tables.withdrawals.entries gtin.now (λ other h. same_text gtin.now other (sym h)) (text-self gtin.now) are.withdrawals form.0 e in
     λ i. record { recall = λ batch. find-none (λ placed. is_recall_of batch placed.entry.item) log entry (form.1 batch) i; withdrawal = λ g. later g i }
 
@@ -75,8 +73,7 @@ stop-later log entry tables (stops.OfProduct gtin) are own e =
 elsewhere : (log : List LogEntry) (entry : LogEntry) (pack : PackKey) → NamesNone pack entry.item → is_withdrawal_of pack.gtin entry.item ≡ false
     → IfSome (life_batch (life_of pack log)) (λ batch. is_recall_of (batch_key pack.gtin batch) entry.item ≡ false)
     → life_of pack (longer log entry) ≡ life_of pack log
-elsewhere log entry pack names withdrawal recall =
-    let first = find-none (λ placed. is_upload_of pack placed.entry.item) log entry names.0 in
+elsewhere log entry pack names withdrawal recall = let first = find-none (λ placed. is_upload_of pack placed.entry.item) log entry names.0 in
     let own = filter-none (λ placed. is_status_of pack placed.entry.item) log entry names.1 in
     λ i. record { birth = first i; statuses = own i; next = λ by x. same by x i }
   where
@@ -106,8 +103,7 @@ module _ (whole : List LogEntry) (place : ℕ) (l : length whole ≡ place + 1) 
 
   pub recall-added : (tables : Stops) (key : BatchKey) (recalls : List (BatchKey × ℕ)) → AreStopsOf log tables → is_recall_of key entry.item ≡ true
       → HasFirst is_same_batch whole place key tables.recalls.entries recalls → AreFirsts whole recalls tables.withdrawals.entries
-  recall-added tables key recalls are own =
-      let form = recall-form key entry.item own in
+  recall-added tables key recalls are own = let form = recall-form key entry.item own in
       at-newest whole place l (λ w n. HasFirst is_same_batch w n key tables.recalls.entries recalls → AreFirsts w recalls tables.withdrawals.entries)
       (λ has. (
         firsts-more is_same_batch is_recall_of recalled_in log entry tables.recalls.entries key (same_batch key) (batch-self key) are.recalls form.0 recalls (one-recall key entry.item own) has,
@@ -116,8 +112,7 @@ module _ (whole : List LogEntry) (place : ℕ) (l : length whole ≡ place + 1) 
 
   pub withdrawal-added : (tables : Stops) (key : List ℕ) (withdrawals : List (List ℕ × ℕ)) → AreStopsOf log tables → is_withdrawal_of key entry.item ≡ true
       → HasFirst bytes_eq whole place key tables.withdrawals.entries withdrawals → AreFirsts whole tables.recalls.entries withdrawals
-  withdrawal-added tables key withdrawals are own =
-      let form = withdrawal-form key entry.item own in
+  withdrawal-added tables key withdrawals are own = let form = withdrawal-form key entry.item own in
       at-newest whole place l (λ w n. HasFirst bytes_eq w n key tables.withdrawals.entries withdrawals → AreFirsts w tables.recalls.entries withdrawals)
       (λ has. (
         recalls-stay log entry tables.recalls.entries form.1 are.recalls,
@@ -126,11 +121,9 @@ module _ (whole : List LogEntry) (place : ℕ) (l : length whole ≡ place + 1) 
 
   -- it bears on no pack of another product
   life-away : (stop : Stop) → is_stop stop entry.item ≡ true → (pack : PackKey) → bytes_eq (stopped_product stop) pack.gtin ≡ false → life_of pack whole ≡ life_of pack log
-  life-away (stops.OfBatch batch) own pack n =
-      let form = recall-form batch.now entry.item own in
+  life-away (stops.OfBatch batch) own pack n = let form = recall-form batch.now entry.item own in
       at-newest whole place l (λ w n. life_of pack w ≡ life_of pack log) (elsewhere log entry pack (form.2.0 pack) (form.1 pack.gtin) (search rules))
-  life-away (stops.OfProduct gtin) own pack n =
-      let form = withdrawal-form gtin.now entry.item own in
+  life-away (stops.OfProduct gtin) own pack n = let form = withdrawal-form gtin.now entry.item own in
       at-newest whole place l (λ w n. life_of pack w ≡ life_of pack log) (elsewhere log entry pack (form.2.0 pack) (form.0 pack.gtin ∙ n) (search rules))
 
   pub stop-away : (stop : Stop) → is_stop stop entry.item ≡ true → (gtin : List ℕ) → bytes_eq (stopped_product stop) gtin ≡ false → AreSamePacks whole log gtin
@@ -140,8 +133,7 @@ module _ (whole : List LogEntry) (place : ℕ) (l : length whole ≡ place + 1) 
   pub stop-passes : (stop : Stop) → is_stop stop entry.item ≡ true → (shelf : ShelfTable) → IsShelfOf log (stopped_product stop) shelf
       → (serial : List ℕ) (number : ℕ) → lookup (bytes_eq serial) shelf.slots ≡ Some (Own number) → may_stop shelf.listing stop number ≡ false
       → life_of (pack_key (stopped_product stop) serial) whole ≡ life_of (pack_key (stopped_product stop) serial) log
-  stop-passes (stops.OfBatch batch) own shelf of serial number found none =
-      let pack = pack_key batch.now.gtin serial in
+  stop-passes (stops.OfBatch batch) own shelf of serial number found none = let pack = pack_key batch.now.gtin serial in
       let form = recall-form batch.now entry.item own in
       let listed = (of.packs serial).listed in
       at-newest whole place l (λ w n. life_of pack w ≡ life_of pack log) (elsewhere log entry pack (form.2.0 pack) (form.1 batch.now.gtin) (search rules))

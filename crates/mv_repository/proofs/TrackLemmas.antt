@@ -73,8 +73,7 @@ module _ (log : List LogEntry) (stops : FirstStops) (gtin : List ℕ) (birth : �
   blocks-at : (by : ℕ) (bs : List Block) (xs : List ℕ)
       → AreBlocks (entry_at log) N birth by bs xs ≡ AreBlocks (λ placed. placed) next (entry_at log birth) (entry_at log by) bs (map (entry_at log) xs)
   blocks-at by [] xs = refl
-  blocks-at by (one ∷ bs) xs =
-      let others = blocks-at (fold N by (take one.count xs)) bs (drop one.count xs)
+  blocks-at by (one ∷ bs) xs = let others = blocks-at (fold N by (take one.count xs)) bs (drop one.count xs)
       ∙ (λ i. AreBlocks (λ placed. placed) next (entry_at log birth) (behind by i) bs (sym (drop-map (entry_at log) one.count xs) i)) in
       λ i. (one.count ≤ sym (length-map xs (entry_at log)) i) × (one.after ≡ (behind by i).place) × ((one.of_active ≡ (behind birth i).place) × covered i) × others i
     where
@@ -190,8 +189,7 @@ module _ (log : List LogEntry) (entry : LogEntry) (pack : PackKey) (xs : List Pl
 pub status-effect : (log : List LogEntry) (entry : LogEntry) (tables : Stops) (pack : PackKey) (front : List ℕ) → AreStopsOf log tables → is_status_of pack entry.item ≡ true
     → front ≡ places_before (longer log entry) (length log) (kept_of (life_of pack log)).statuses
     → effect_at (longer log entry) (stops_in (longer log entry) tables) pack.gtin (kept_of (life_of pack log)).birth front (length log) ≡ effect_of log entry
-status-effect log entry tables pack front stops own p =
-    let whole = longer log entry in
+status-effect log entry tables pack front stops own p = let whole = longer log entry in
     let x = newest log entry in
     let mine = statuses_of pack (ordered log) in
     let birth = first_upload pack (ordered log) in

@@ -51,8 +51,7 @@ IsBorn pack log whole place = (done : Bool) →
 
 is-born : (log : List LogEntry) (entry : LogEntry) (pack : PackKey) → is_upload_of pack entry.item ≡ true → is_status_of pack entry.item ≡ false → StopsNone entry.item
     → IsBorn pack log (longer log entry) (length log)
-is-born log entry pack own s none true =
-    let birth = find-some (λ placed. is_upload_of pack placed.entry.item) log entry own in
+is-born log entry pack own s none true = let birth = find-some (λ placed. is_upload_of pack placed.entry.item) log entry own in
     (grind (arith, nat_tests, birth), refl, λ e. refl)
 is-born log entry pack own s none false = (
   sym (find-some (λ placed. is_upload_of pack placed.entry.item) log entry own),
@@ -148,8 +147,7 @@ module _ (whole : List LogEntry) (place : ℕ) (pack : PackKey) (l : length whol
     where
       by : (serial : List ℕ) (b : Bool) → bytes_eq pack.serial serial ≡ b → IsPackOf (life_of (pack_key pack.gtin serial) whole) new serial
       by serial true e = subst (λ (s : List ℕ). IsPackOf (life_of (pack_key pack.gtin s) whole) new s) (same_text pack.serial serial (sym e)) now
-      by serial false e =
-          let form = status-form pack (get_or whole place no_entry).item own in
+      by serial false e = let form = status-form pack (get_or whole place no_entry).item own in
           let only = form.0 (pack_key pack.gtin serial) in
           subst (λ (l : Life). IsPackOf l new serial)
           (sym (untouched before (get_or whole place no_entry) (pack_key pack.gtin serial) only.0 (only.1 ∙ (λ i. text-self pack.gtin i && e i)) form.1)

@@ -46,8 +46,7 @@ uploaded-found log pack = grind (arith, nat_tests, any-ordered (is_upload_of pac
 -- the newest entry comes first of its kind where none of the kind stands before it
 pub first-effect : (f : Placed → Bool) (log : List LogEntry) (entry : LogEntry) (first : Option ℕ) → first ≡ option_map place_of (find f (ordered log))
     → comes_first (longer log entry) (length log) first ≡ not (is_before (find f (ordered log)) (newest log entry))
-first-effect f log entry first e =
-    let stand = find-stand f (longer log entry) (ordered log) (still-stand log entry) in
+first-effect f log entry first e = let stand = find-stand f (longer log entry) (ordered log) (still-stand log entry) in
     let below = find-below f (length log) (ordered log) (ordered-below log) in
     grind (arith, nat_tests, newest-stands)
 
@@ -138,8 +137,7 @@ last-found f last [] = grind (arith, nat_tests)
 last-found f last (y ∷ ys) = grind (arith, nat_tests, last-found f last ys, last-found f (Some y) ys)
 
 pub count-products : (log : List LogEntry) (masters : List (List ℕ × ℕ)) → IsDistinct bytes_eq (keys_of masters) → AreMastersOf log masters → length masters ≡ distinct_count bytes_eq (flat_map (λ entry. mastered_in entry.item) log)
-count-products log masters distinct places =
-    counted-once nat_list_eq_equiv masters (flat_map (λ entry. mastered_in entry.item) log) distinct
+count-products log masters distinct places = counted-once nat_list_eq_equiv masters (flat_map (λ entry. mastered_in entry.item) log) distinct
     (λ gtin. grind (arith, any-flat (bytes_eq gtin) mastered_in (is_master gtin) (mastered-is gtin) log, any-ordered (is_master gtin) log, last-found, places gtin, some-map))
 
 batch-equiv : IsEquivalence is_same_batch

@@ -152,7 +152,6 @@ fn extend(basis: &Basis<'_>, own: &[u32], blocks: &mut Vec<Block>, by: u32) -> u
 /// Works out again the block behind a cut, where the status at a place was put in, and takes the pack through the blocks and the
 /// statuses behind it, as far as that changes something. The place of the entry by which it stands behind all, where that by which
 /// it stood before is known. The clauses alone speak of the place.
-#[tactic(auto, using(crate::proofs::BlockLemmas::late_within, std::proofs::lemmas::Grind::common_steps))]
 fn pass_on(
     basis: &Basis<'_>,
     own: &[u32],

@@ -128,7 +128,6 @@ impl<'a> History<'a> {
 
     /// Whether two histories are the same: what decides the packs was sent alike, and each status stands alike behind the
     /// upload, the recall and the withdrawal.
-    #[tactic(auto, using(crate::proofs::HistoryLemmas::sent_entry))]
     pub fn is_same(&self, other: &History<'_>) -> bool
         ensures { IsTrue result ↔ (as_sent self.now ≡ as_sent other.now) }
     {

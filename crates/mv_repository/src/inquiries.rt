@@ -56,8 +56,7 @@ impl Inquiries {
         ensures same { (party : ℕ) (log : List AnEntry) → IsInquiriesOf party log self.old
             → IsInquiriesOf party log self.new }
     {
-        self.inquiries.reserve(1)?;
-        self.replies.reserve(1)
+        self.inquiries.reserve(1).and(self.replies.reserve(1))
     }
 
     /// Notes an item from a sender, which comes last in the log of the party.

@@ -47,7 +47,6 @@ impl Listing {
 
     /// Lists a track under the batch of the upload at a place, if there is one. Where memory is refused for it, the listing is not
     /// whole any more.
-    #[tactic(auto, using(crate::proofs::SerialLemmas::listed_in))]
     pub fn note(&mut self, log: &[LogEntry], birth: Option<u32>, number: u32)
         ensures added { IfSome (option_and_then (λ place. made_batch (entry_at log.now place)) birth) (λ batch. lists self.new batch number ≡ true) }
         ensures kept { (batch : List ℕ) (other : ℕ) → lists self.old batch other ≡ true → lists self.new batch other ≡ true }

@@ -302,8 +302,7 @@ impl Repository {
         if place > u32::MAX as usize {
             return Err(AllocError);
         }
-        self.inquiries.reserve()?;
-        self.log.reserve(1)?;
+        self.inquiries.reserve().and(self.log.reserve(1))?;
         let Ok(copy) = item.copy() else {
             return Err(AllocError);
         };

@@ -197,8 +197,8 @@ impl Shelf {
         if serials.len() > MOST_SERIALS {
             return Err(AllocError);
         }
-        self.index.reserve(serials.len())?;
-        self.slots.reserve(serials.len())?;
+        let more = serials.len();
+        self.index.reserve(more).and(self.slots.reserve(more))?;
         self.index.touch(serials);
         // All room is got: nothing fails from here on. A track that finds no memory to be listed by makes the listing not whole.
         let mut new = 0;
@@ -221,11 +221,9 @@ impl Shelf {
             × ((batch : List ℕ) (other : ℕ) → lists self.old.listing batch other ≡ true → lists self.new.listing batch other ≡ true)) }
         ensures err { OnErr result (self.new ≡ record self.old { room = self.new.room }) }
     {
-        let number = u32::try_from(self.names.len()).or(Err(AllocError))?;
-        self.index.reserve(1)?;
-        self.slots.reserve(1)?;
-        self.names.reserve(1)?;
-        self.tracks.reserve(1)?;
+        let names = self.names.reserve(1).and(self.tracks.reserve(1));
+        let room = self.index.reserve(1).and(self.slots.reserve(1)).and(names);
+        let number = room.and(u32::try_from(self.names.len()).or(Err(AllocError)))?;
         // All room is got: nothing fails from here on.
         self.listing.note(log, track.birth, number);
         self.names.push_reserved(serial.copy());

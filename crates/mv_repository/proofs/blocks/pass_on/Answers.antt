@@ -29,3 +29,9 @@ overflow_add-old c = grind (arith, common_steps, late_within)
 
 pub split_at-requires-in-loop-number : goal.split_at-requires-in-loop-number
 split_at-requires-in-loop-number c = grind (arith, common_steps, late_within)
+
+pub index_mut-requires-in-loop-number : goal.index_mut-requires-in-loop-number
+index_mut-requires-in-loop-number c = grind (arith, common_steps, late_within)
+
+pub returns-then-last-before-clause-by : goal.returns-then-last-before-clause-by
+returns-then-last-before-clause-by c = grind (arith, common_steps, late_within)

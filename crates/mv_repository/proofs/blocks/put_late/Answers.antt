@@ -14,14 +14,12 @@ returns-then-at-own-clause-effect c =
     c.next.ensures.effect ∙ ap (λ (n : ℕ). effect_in c.args.basis.now n (get_or c.args.own.now c.args.at 0)) before
 
 pub returns-then-index-clause-effect : goal.returns-then-index-clause-effect
-returns-then-index-clause-effect c =
-    let cut = c.cut_at-cut.ensures.cut (without c.args.own.now c.args.at) c.requires.blocks in
+returns-then-index-clause-effect c = let cut = c.cut_at-cut.ensures.cut (without c.args.own.now c.args.at) c.requires.blocks in
     let before = late-before (entry_at c.args.basis.now.log.now) (next_in c.args.basis.now) c.args.basis.now.birth (λ n. refl) c.args.blocks.now.items c.args.own.now c.args.at c.cut_at-cut.result c.requires.within c.cut_at-cut.ensures.at cut in
     c.next-effect.ensures.effect ∙ ap (λ (n : ℕ). effect_in c.args.basis.now n (get_or c.args.own.now c.args.at 0)) (c.after-before.ensures ∙ before)
 
 pub returns : goal.returns
-returns c =
-    let cut = c.cut_at-cut.ensures.cut (without c.args.own.now c.args.at) c.requires.blocks in
+returns c = let cut = c.cut_at-cut.ensures.cut (without c.args.own.now c.args.at) c.requires.blocks in
     let before = late-before (entry_at c.args.basis.now.log.now) (next_in c.args.basis.now) c.args.basis.now.birth (λ n. refl) c.args.blocks.now.items c.args.own.now c.args.at c.cut_at-cut.result c.requires.within c.cut_at-cut.ensures.at cut in
     record {
       effect = c.next-effect.ensures.effect ∙ ap (λ (n : ℕ). effect_in c.args.basis.now n (get_or c.args.own.now c.args.at 0)) (c.after-before.ensures ∙ before);
@@ -31,3 +29,9 @@ returns c =
 
 pub pass_on-requires-clause-cut : goal.pass_on-requires-clause-cut
 pass_on-requires-clause-cut c = c.cut_at-cut.ensures.cut (without c.args.own.now c.args.at) c.requires.blocks
+
+pub returns-then-at-own-clause-by : goal.returns-then-at-own-clause-by
+returns-then-at-own-clause-by c = grind (arith, common_steps)
+
+pub pass_on-requires-clause-inside : goal.pass_on-requires-clause-inside
+pass_on-requires-clause-inside c = c.cut_at-cut.ensures.inside (omega arith)

@@ -6,3 +6,6 @@ pub loop-place-preserved : goal.loop-place-preserved
 loop-place-preserved c =
     covered-more (entry_at c.args.basis.now.log.now) c.loop-place.reverters _ c.args.own.now c.loop-place.place-index c.loop-place-test.true
     (λ other h. grind (arith, common_steps)) (λ active. grind (arith, common_steps)) c.loop-place.invariant
+
+pub pass-requires : goal.pass-requires
+pass-requires c = grind (arith, common_steps)

@@ -3,8 +3,7 @@ use Rattle.mv_repository.proofs.Lemmas.{◌≡◌, rules, ap, ◌∙◌, Some, n
 use Rattle.mv_repository.proofs.inquiries.Inquiries.verdict.Goals as goal
 
 pub returns-then-left-eq0 : goal.returns-then-left-eq0
-returns-then-left-eq0 c party log is =
-    let inquiry : inquiry_in c.args.self.now c.args.q ≡ c.in-Some.inquiry.now = search rules in
+returns-then-left-eq0 c party log is = let inquiry : inquiry_in c.args.self.now c.args.q ≡ c.in-Some.inquiry.now = search rules in
     let asked : c.in-Some.inquiry.now.asked ≡ Some c.in-Some-asked.asked = search rules in
     let left : length (filter (λ other. not (has_reply c.args.self.now c.args.q other)) c.in-Some-asked.asked) ≡ 0 = search rules in
     ap Decided c.verdict_when.ensures ∙ verdict_known party log c.args.self.now c.args.q c.in-Some.inquiry.now c.in-Some-asked.asked is inquiry asked left

@@ -24,7 +24,6 @@ pub returns-clause-added : goal.returns-clause-added
 returns-clause-added c = lists-now c.self.inside.is_whole _ _ c.in-Some-Upload.batch c.insert.new.self c.args.number (search rules) (search rules) (search rules)
 
 pub returns-clause-kept : goal.returns-clause-kept
-returns-clause-kept c batch number h =
-    lists-stay c.self.inside.is_whole c.self.inside.batches.entries _ batch number
+returns-clause-kept c batch number h = lists-stay c.self.inside.is_whole c.self.inside.batches.entries _ batch number
     (stays-in c.self.inside.batches.entries _ c.in-Some-Upload.batch c.or_insert.result.now c.insert.new.self (λ other. search rules) (search rules) (λ one h. search rules) batch number)
     (subst (λ (l : ListingTable). lists l batch number ≡ true) (sym c.self.view_is) h)

@@ -3,8 +3,7 @@ use Rattle.mv_repository.proofs.Lemmas.{◌≡◌, ◌∙◌, rules, length, act
 use Rattle.mv_repository.proofs.repository.Repository.counts.Goals as goal
 
 pub returns : goal.returns
-returns c =
-    let log = c.self.inside.log.items in
+returns c = let log = c.self.inside.log.items in
     let tables = c.self.invariant.0 in
     let entries : c.len.result ≡ length log = search rules in
     let products = c.len-2.ensures.len ∙ count-products log c.self.inside.tables.masters.entries c.len-2.ensures.unique tables.masters in

@@ -3,8 +3,7 @@ use Rattle.mv_repository.proofs.Lemmas.{◌≡◌, List, LogEntry, ap, sym, subs
 use Rattle.mv_repository.proofs.repository.Repository.history.Goals as goal
 
 pub returns : goal.returns
-returns c =
-    let log = c.as_slice.result.now in
+returns c = let log = c.as_slice.result.now in
     let same : c.args.self.now.log ≡ log = search rules in
     lent-places log c.args.key.now c.self.inside.tables.stops _ _ _ c.pack.result _ _
     (subst (λ (log : List LogEntry). AreStopsOf log c.self.inside.tables.stops) (sym c.as_slice.ensures.value) c.self.invariant.0.stops)
@@ -12,6 +11,5 @@ returns c =
     ∙ ap (history_of c.args.key.now) (sym same)
 
 pub invariant_of-result : goal.invariant_of-result
-invariant_of-result c =
-    let same : c.args.self.now.log ≡ c.as_slice.result.now = search rules in
+invariant_of-result c = let same : c.args.self.now.log ≡ c.as_slice.result.now = search rules in
     subst (AreAt c.as_slice.result.now) (sym (returns c ∙ ap (history_of c.args.key.now) same)) (history-at c.as_slice.result.now c.args.key.now)

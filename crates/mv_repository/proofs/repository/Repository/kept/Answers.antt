@@ -3,15 +3,13 @@ use Rattle.mv_repository.proofs.Lemmas.{◌≡◌, ◌∙◌, [], AreShelfOf, Ar
 use Rattle.mv_repository.proofs.repository.Repository.kept.Goals as goal
 
 pub find-requires : goal.find-requires
-find-requires c =
-    let log : c.as_slice.result.now ≡ c.self.inside.log.items = search rules in
+find-requires c = let log : c.as_slice.result.now ≡ c.self.inside.log.items = search rules in
     let shelf : shelf_of c.args.key.now.gtin c.self.inside.tables.shelves.entries ≡ c.in-Some.shelf.now = search rules in
     subst (λ (one : List LogEntry). AreSlots one c.in-Some.shelf.now.table) (sym log)
     (subst (AreShelfOf c.self.inside.log.items c.args.key.now.gtin) shelf (c.self.invariant.0.shelves c.args.key.now.gtin)).slots
 
 pub returns-in-Some : goal.returns-in-Some
-returns-in-Some c =
-    let log : c.as_slice.result.now ≡ c.self.inside.log.items = search rules in
+returns-in-Some c = let log : c.as_slice.result.now ≡ c.self.inside.log.items = search rules in
     let shelf : shelf_of c.args.key.now.gtin c.self.inside.tables.shelves.entries ≡ c.in-Some.shelf.now = search rules in
     let slots = c.in-Some.shelf.now.table in
     let are = subst (AreShelfOf c.self.inside.log.items c.args.key.now.gtin) shelf (c.self.invariant.0.shelves c.args.key.now.gtin) in

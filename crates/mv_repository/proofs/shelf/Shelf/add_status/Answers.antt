@@ -24,20 +24,17 @@ module _ (c : In-Some-Own) where
   found = grind arith
 
 pub index_mut-requires : goal.index_mut-requires
-index_mut-requires c =
-    let at = (goal.at.index_mut-requires c).In-Some-Own in
+index_mut-requires c = let at = (goal.at.index_mut-requires c).In-Some-Own in
     omega (arith, own-within (whole at) (table at) (seen at).0 (old at).tracks c.self.invariant.1 c.args.pack.now.serial c.in-Some-Own.number (found at))
 
 pub add_status-requires-clause-kept : goal.add_status-requires-clause-kept
-add_status-requires-clause-kept c =
-    let at = (goal.at.add_status-requires-clause-kept c).In-Some-Own in
+add_status-requires-clause-kept c = let at = (goal.at.add_status-requires-clause-kept c).In-Some-Own in
     subst (IsKept (life_of c.args.pack.now (take c.args.newest.now.place (whole at))))
     (own-kept (whole at) (table at) (seen at).0 (old at).tracks c.self.invariant.1 c.args.pack.now.serial c.in-Some-Own.number (found at) c.index_mut.result.now c.index_mut.ensures.value)
     ((seen at).1.packs c.args.pack.now.serial).kept
 
 pub returns-in-Some-Own-clause-ok : goal.returns-in-Some-Own-clause-ok
-returns-in-Some-Own-clause-ok c =
-    let at = (goal.at.returns-in-Some-Own-clause-ok c).In-Some-Own in
+returns-in-Some-Own-clause-ok c = let at = (goal.at.returns-in-Some-Own-clause-ok c).In-Some-Own in
     let pack = c.args.pack.now in
     let track = c.add_status.new.self in
     on_map c.add_status.result c.add_status.ensures.ok (λ now. record {
@@ -82,8 +79,7 @@ module _ (c : goal.After-put) where
   count = (λ i. length (sym c.self.view_is i).table.names) ∙ c.self.invariant.1 ∙ (λ i. length (c.self.view_is i).tracks)
 
   written : IsWritten log c.args.self.now.table c.put.new.self.table serial (Own (length names))
-  written =
-      written-own log c.args.self.now.table are.0 serial c.find-spot.result c.put.new.self.table c.find-spot.ensures
+  written = written-own log c.args.self.now.table are.0 serial c.find-spot.result c.put.new.self.table c.find-spot.ensures
       (subst (λ (pair : ℕ × SlotTable). Writes c.find-spot.result (Own pair.0) pair.1 c.put.new.self.table)
       (λ i. (c.in_ok-number.ensures.pushed.0 i, c.in_ok-number.ensures.pushed.2 i)) c.put.ensures.written)
 
@@ -110,15 +106,13 @@ module _ (c : goal.After-put) where
       (λ batch one h. ap (λ (l : ListingTable). lists l batch one) (λ i. (c.put.ensures.others i).listing) ∙ c.in_ok-number.ensures.listed.1 batch one h)
 
 pub add_status-requires-2-clause-kept : goal.add_status-requires-2-clause-kept
-add_status-requires-2-clause-kept c =
-    let slots = c.args.self.now.table in
+add_status-requires-2-clause-kept c = let slots = c.args.self.now.table in
     let made : kept_by c.args.self.now.tracks (lookup (bytes_eq c.args.pack.now.serial) (keyed c.args.newest.now.log.now slots.names slots.slots)) ≡ c.new-track.result = grind arith in
     subst (IsKept (life_of c.args.pack.now (take c.args.newest.now.place c.args.newest.now.log.now))) made
     ((shelf-seen c.args.newest.now.log.now c.args.newest.now.place c.args.pack.now.gtin refl c.requires.shelf).1.packs c.args.pack.now.serial).kept
 
 pub returns-in_err-number-clause-err : goal.returns-in_err-number-clause-err
-returns-in_err-number-clause-err c =
-    let same = c.in_err-number.ensures.err in
+returns-in_err-number-clause-err c = let same = c.in_err-number.ensures.err in
     on_err c.from_residual-in_err-number.result _ (shelf-same _ _ c.args.self.now c.push.new.self (λ i. (same i).table) (λ i. (same i).tracks) (λ i. (same i).listing) c.requires.shelf)
 
 pub returns-clause-ok : goal.returns-clause-ok

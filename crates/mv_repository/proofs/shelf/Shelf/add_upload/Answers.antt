@@ -1,25 +1,18 @@
 -- One serial number more.
-use Rattle.mv_repository.proofs.Lemmas.{◌≡◌, ◌+◌, ◌∷◌, AreSlots, ArePacksOf, IsShelfOf, SlotTable, keyed, shelf-seen, shelf-same, on_err, Kept, List, Some, [], ap, arith, bytes_eq, comes_first, cond, fold, fold-append, get_or, get_or_default, insert_key, kept_in, length, log-length, log-split, nat_tests, new-more, no_entry, refl, rules, serials-at, serials_of, shelf_by, slice_get, slice_get-get_or, subst, sym, take, take_all, take_more, text-self, upload-adds, upload-all, upload-names, upload-serials, ℕ, ◌∙◌, common_steps}
+use Rattle.mv_repository.proofs.Lemmas.{◌≡◌, ◌+◌, ◌∷◌, AreSlots, ArePacksOf, IsShelfOf, SlotTable, keyed, shelf-seen, shelf-same, on_err, Kept, List, [], ap, arith, bytes_eq, comes_first, cond, fold, fold-append, get_or, get_or_default, insert_key, kept_in, log-length, log-split, nat_tests, new-more, no_entry, refl, rules, serials-at, serials_of, shelf_by, subst, sym, take, take_all, take_more, text-self, upload-adds, upload-all, upload-serials, ℕ, ◌∙◌, common_steps}
 use Rattle.mv_repository.proofs.shelf.Shelf.add_upload.Goals as goal
 
 pub loop-index-init : goal.loop-index-init
-loop-index-init c =
-    let whole = c.args.newest.now.log.now in
+loop-index-init c = let whole = c.args.newest.now.log.now in
     let place = c.args.newest.now.place in
     let hashes = (λ i. (c.touch.ensures i).hashes) ∙ c.reserve.ensures.hashes in
     let longer = subst (λ (table : SlotTable). AreSlots whole table × IsShelfOf (take place whole) c.args.gtin.now (record { slots = keyed whole table.names table.slots; tracks = c.self.inside.tracks.items; listing = c.self.inside.listing }))
     (sym (λ i. record { hashes = hashes i; slots = c.reserve-2.ensures.items i; names = c.self.inside.names.items })) (shelf-seen whole place c.args.gtin.now c.self.view_is c.requires.shelf) in
     let room : c.touch.new.self.room ≡ c.reserve.new.self.room = λ i. (c.touch.ensures i).room in
-    record { room = omega (arith, c.in_ok-reserve.ensures.ok, c.in_ok-reserve-2.ensures.ok, ap length c.reserve-2.ensures.items); slots = longer.0; packs = longer.1.packs; keys = longer.1.serials; new = refl; least = omega arith }
-
-pub put_upload-is_first-requires-clause-named : goal.put_upload-is_first-requires-clause-named
-put_upload-is_first-requires-clause-named c =
-    ap (λ (l : List (List ℕ)). slice_get l c.loop-index.index) (upload-names (get_or c.args.newest.now.log.now c.args.newest.now.place no_entry).item c.args.gtin.now c.args.serials.now c.requires.upload)
-    ∙ slice_get-get_or c.args.serials.now c.loop-index.index c.index-serials-index.result c.loop-index-test.true ∙ ap Some (sym c.index-serials-index.is)
+    record { room = grind (arith, common_steps, room); slots = longer.0; packs = longer.1.packs; keys = longer.1.serials; new = refl; least = omega arith }
 
 pub loop-index-preserved : goal.loop-index-preserved
-loop-index-preserved c =
-    let whole = c.args.newest.now.log.now in
+loop-index-preserved c = let whole = c.args.newest.now.log.now in
     let place = c.args.newest.now.place in
     let at = c.loop-index.index in
     let old = shelf_by whole c.loop-index.self in
@@ -43,8 +36,7 @@ loop-index-preserved c =
     }
 
 pub returns-clause-ok : goal.returns-clause-ok
-returns-clause-ok c =
-    let whole = c.args.newest.now.log.now in
+returns-clause-ok c = let whole = c.args.newest.now.log.now in
     let place = c.args.newest.now.place in
     let all : take c.loop-index.index c.args.serials.now ≡ c.args.serials.now = take_all c.loop-index.index c.args.serials.now (omega arith) in
     let upload = c.requires.upload in
@@ -64,8 +56,5 @@ pub returns-clause-effect : goal.returns-clause-effect
 returns-clause-effect c = grind (arith, common_steps)
 
 -- where memory is refused, all is kept as it was
-pub returns-in_err-reserve-clause-err : goal.returns-in_err-reserve-clause-err
-returns-in_err-reserve-clause-err c = on_err c.from_residual.result _ (shelf-same _ _ c.args.self.now _ ((λ i. record { hashes = c.reserve.ensures.hashes i; slots = c.self.inside.slots.items; names = c.self.inside.names.items }) ∙ (λ i. (c.self.view_is i).table)) (λ i. (c.self.view_is i).tracks) (λ i. (c.self.view_is i).listing) c.requires.shelf)
-
-pub returns-in_err-reserve-2-clause-err : goal.returns-in_err-reserve-2-clause-err
-returns-in_err-reserve-2-clause-err c = on_err c.from_residual-in_err-reserve-2.result _ (shelf-same _ _ c.args.self.now _ ((λ i. record { hashes = c.reserve.ensures.hashes i; slots = c.reserve-2.ensures.items i; names = c.self.inside.names.items }) ∙ (λ i. (c.self.view_is i).table)) (λ i. (c.self.view_is i).tracks) (λ i. (c.self.view_is i).listing) c.requires.shelf)
+pub returns-in_err-and-clause-err : goal.returns-in_err-and-clause-err
+returns-in_err-and-clause-err c = on_err c.from_residual.result _ (shelf-same _ _ c.args.self.now _ ((λ i. record { hashes = c.reserve.ensures.hashes i; slots = c.reserve-2.ensures.items i; names = c.self.inside.names.items }) ∙ (λ i. (c.self.view_is i).table)) (λ i. (c.self.view_is i).tracks) (λ i. (c.self.view_is i).listing) c.requires.shelf)

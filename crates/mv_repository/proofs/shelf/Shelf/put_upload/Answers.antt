@@ -1,11 +1,10 @@
 -- The pack has a slot, and the other packs keep theirs.
-use Rattle.mv_repository.proofs.Lemmas.{◌≡◌, AreSlots, IfSome, IsAgain, IsPut, IsWritten, Kept, List, LogEntry, Made, Option, Own, ShelfParts, ShelfTable, Slot, SlotTable, Some, [], ap, arith, bytes_eq, comes_first, entry_at, false, found-own, get_or_from_slice_get, is-changed, is_listed, keyed, kept_by, kept_in, lookup, none-changed, own-changed, own-kept, own-set, own-within, refl, serials_uploaded, shelf_by, slice_get_within, stops_in, subst, sym, true, ◌∙◌, made_batch, set, true≢false}
+use Rattle.mv_repository.proofs.Lemmas.{◌≡◌, AreSlots, IfSome, IsAgain, IsPut, IsWritten, Kept, List, LogEntry, Made, Option, Own, ShelfParts, ShelfTable, Slot, SlotTable, Some, [], ap, arith, bytes_eq, comes_first, entry_at, false, found-own, get_or_from_slice_get, is-changed, is_listed, keyed, kept_by, kept_in, lookup, none-changed, own-changed, own-kept, own-set, own-within, refl, serials_uploaded, shelf_by, slice_get_within, stops_in, subst, sym, true, ◌∙◌, made_batch, set, true≢false, common_steps}
 use Rattle.mv_repository.proofs.shelf.Shelf.put_upload.Goals.{After-put, In-Some-Own, in_default-via-in-Some+in_default, in_default-via-in_default}
 use Rattle.mv_repository.proofs.shelf.Shelf.put_upload.Goals as goal
 
 pub returns-then-not-comes_first-clause-put : goal.returns-then-not-comes_first-clause-put
-returns-then-not-comes_first-clause-put c =
-    let log = c.args.newest.now.log.now in
+returns-then-not-comes_first-clause-put c = let log = c.args.newest.now.log.now in
     let shelf = shelf_by log c.args.self.now in
     let later : comes_first log c.args.newest.now.place (kept_in shelf c.args.serial.now).birth ≡ false = grind arith in
     record {
@@ -27,8 +26,7 @@ module _ (c : After-put) where
   new = record old { slots = keyed log c.put.new.self.table.names c.put.new.self.table.slots }
 
   written : IsWritten log c.args.self.now.table c.put.new.self.table c.args.serial.now (Made c.args.index c.args.newest.now.place)
-  written =
-      let named = serials_uploaded (entry_at log c.args.newest.now.place).entry.item in
+  written = let named = serials_uploaded (entry_at log c.args.newest.now.place).entry.item in
       c.put.ensures.written log c.args.serial.now c.requires.slots c.find-spot.ensures
       (slice_get_within named c.args.index c.args.serial.now c.requires.named) (get_or_from_slice_get named c.args.index c.args.serial.now [] c.requires.named)
 
@@ -66,16 +64,14 @@ module _ (c : In-Some-Own) where
   found = grind arith
 
 pub index_mut-requires : goal.index_mut-requires
-index_mut-requires c =
-    let at = (goal.at.index_mut-requires c).In-Some-Own in
+index_mut-requires c = let at = (goal.at.index_mut-requires c).In-Some-Own in
     omega (arith, own-within c.args.newest.now.log.now (table at) (are at) c.self.inside.tracks.items c.self.invariant.1 c.args.serial.now c.in-Some-Own.number (found at))
 
 pub returns-clause-slots : goal.returns-clause-slots
 returns-clause-slots c = are (goal.at.returns-clause-slots c).In-Some-Own
 
 pub returns-clause-put : goal.returns-clause-put
-returns-clause-put c =
-    let at = (goal.at.returns-clause-put c).In-Some-Own in
+returns-clause-put c = let at = (goal.at.returns-clause-put c).In-Some-Own in
     let log = c.args.newest.now.log.now in
     let stops = stops_in log c.args.newest.now.stops.now in
     let place = c.args.newest.now.place in
@@ -93,3 +89,9 @@ returns-clause-put c =
           (λ i. (sym (own-kept log one (are at) tracks c.self.invariant.1 serial number (found at) c.index_mut.result.now c.index_mut.ensures.value) i, sym (own-set log one (are at) tracks c.self.invariant.1 serial number (found at) track) i)) c.refresh.ensures;
       listed = λ e. subst (λ (slot : Option Slot). IfSome (made_batch (entry_at log place)) (λ batch. is_listed c.note.new.self slot batch ≡ true)) (sym (found at)) c.note.ensures.added;
     })
+
+pub returns-clause-room : goal.returns-clause-room
+returns-clause-room c = grind (arith, common_steps)
+
+pub invariant_of-self : goal.invariant_of-self
+invariant_of-self c = grind (arith, common_steps)

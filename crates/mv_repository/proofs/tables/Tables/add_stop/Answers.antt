@@ -36,8 +36,7 @@ module _ (c : In_ok-is_first) where
   ]
 
 pub returns-then-not-branch-clause-ok : goal.returns-then-not-branch-clause-ok
-returns-then-not-branch-clause-ok c =
-    let at = (goal.at.returns-then-not-branch-clause-ok c).In_ok-is_first in
+returns-then-not-branch-clause-ok c = let at = (goal.at.returns-then-not-branch-clause-ok c).In_ok-is_first in
     let form = stop-form c.args.stop.now (get_or c.args.log.now c.args.place no_entry).item c.requires.stop in
     let stays = stop-leaves c.args.log.now c.args.place c.requires.last c.args.self.now.stops c.args.stop.now c.requires.tables.stops c.requires.stop (sym (first at) ∙ c.if-not-branch.true) in
     record {
@@ -51,8 +50,7 @@ pub returns-then-not-branch-clause-effect : goal.returns-then-not-branch-clause-
 returns-then-not-branch-clause-effect c = effect (goal.at.returns-then-not-branch-clause-effect c).In_ok-is_first false (sym c.if-not-branch.true)
 
 pub returns-in_default-clause-ok : goal.returns-in_default-clause-ok
-returns-in_default-clause-ok c =
-    let at = (goal.at.returns-in_default-clause-ok c).In_ok-is_first in
+returns-in_default-clause-ok c = let at = (goal.at.returns-in_default-clause-ok c).In_ok-is_first in
     let form = stop-form c.args.stop.now (get_or c.args.log.now c.args.place no_entry).item c.requires.stop in
     let gtin = stopped_product c.args.stop.now in
     let none : lookup (bytes_eq gtin) (was at).shelves.entries ≡ None = search rules in
@@ -69,15 +67,13 @@ pub refresh-requires-clause-stops : goal.refresh-requires-clause-stops
 refresh-requires-clause-stops c = added (goal.at.refresh-requires-clause-stops c).In_ok-is_first
 
 pub refresh-requires-clause-shelf : goal.refresh-requires-clause-shelf
-refresh-requires-clause-shelf c =
-    let at = (goal.at.refresh-requires-clause-shelf c).In_ok-is_first in
+refresh-requires-clause-shelf c = let at = (goal.at.refresh-requires-clause-shelf c).In_ok-is_first in
     let gtin = stopped_product c.args.stop.now in
     let shelf : shelf_of gtin (was at).shelves.entries ≡ c.in-Some.shelf.now = search rules in
     subst (AreShelfOf (take c.args.place c.args.log.now) gtin) shelf ((tables at).shelves gtin)
 
 pub returns-clause-ok : goal.returns-clause-ok
-returns-clause-ok c =
-    let at = (goal.at.returns-clause-ok c).In_ok-is_first in
+returns-clause-ok c = let at = (goal.at.returns-clause-ok c).In_ok-is_first in
     let form = stop-form c.args.stop.now (get_or c.args.log.now c.args.place no_entry).item c.requires.stop in
     tables-follow c.args.log.now c.args.place c.requires.last (was at) _ (stopped_product c.args.stop.now) c.refresh.new.self form.1 (tables at) refl (added at) (λ other. search rules)
     c.refresh.ensures (stop-away c.args.log.now c.args.place c.requires.last c.args.stop.now c.requires.stop) (named-at c.args.log.now c.args.place c.requires.last (was at).named form.0.1 (tables at).named)

@@ -6,8 +6,7 @@ pub place_for-at-requires : goal.place_for-at-requires
 place_for-at-requires c = grind (arith, common_steps, put-ascend)
 
 pub put_late-effect-requires : goal.put_late-effect-requires
-put_late-effect-requires c =
-    let whole = c.args.newest.now.log.now in
+put_late-effect-requires c = let whole = c.args.newest.now.log.now in
     let place = c.args.newest.now.place in
     let old : Kept = record { birth = c.self.inside.birth; statuses = c.self.inside.statuses.items; by = c.self.inside.by; blocks = c.self.inside.blocks.items } in
     let kept = subst (IsKept (life_of c.args.pack.now (take place whole))) (sym c.self.view_is) c.requires.kept in
@@ -17,8 +16,7 @@ put_late-effect-requires c =
     record { within = grind (arith, common_steps); blocks = late.0; standing = late.1 }
 
 pub returns-in_default : goal.returns-in_default
-returns-in_default c =
-    let whole = c.args.newest.now.log.now in
+returns-in_default c = let whole = c.args.newest.now.log.now in
     let place = c.args.newest.now.place in
     let old : Kept = record { birth = c.self.inside.birth; statuses = c.self.inside.statuses.items; by = c.self.inside.by; blocks = c.self.inside.blocks.items } in
     let kept = subst (IsKept (life_of c.args.pack.now (take place whole))) (sym c.self.view_is) c.requires.kept in
@@ -29,8 +27,7 @@ returns-in_default c =
     record { ok = done.0; effect = done.1; err = tt }
 
 pub returns : goal.returns
-returns c =
-    let whole = c.args.newest.now.log.now in
+returns c = let whole = c.args.newest.now.log.now in
     let place = c.args.newest.now.place in
     let old : Kept = record { birth = c.self.inside.birth; statuses = c.self.inside.statuses.items; by = c.self.inside.by; blocks = c.self.inside.blocks.items } in
     let kept = subst (IsKept (life_of c.args.pack.now (take place whole))) (sym c.self.view_is) c.requires.kept in

@@ -82,7 +82,8 @@ impl Input {
     /// Takes the next bytes, and answers the lines that end in them.
     fn take_all<S: Answering>(&mut self, answering: &mut S, bytes: &[u8]) -> Result<(), ServeFault>
         requires empty { self.old.replies.items ≡ [] }
-        ensures ok { OnOk result (Taken S.replies self.old.begun.items self.old.lines answering.old bytes.now
+        ensures ok { OnOk result (
+            Taken S.replies self.old.begun.items self.old.lines answering.old bytes.now
             self.new.begun.items self.new.lines answering.new self.new.replies.items) }
         ensures err { IfErr result (λ fault.
             StoppedAt S.replies fault self.old.begun.items self.old.lines answering.old bytes.now

@@ -28,7 +28,8 @@ pub fn whole_of(text: &str) -> Option<u64>
 pub(crate) fn whole_at(bytes: &[u8], at: usize) -> Option<(u64, usize)>
     requires within { at < length bytes.now }
     requires digit { is_ascii_digit (get_or bytes.now at 0) ≡ true }
-    ensures digits { IfSome result (λ whole. drop at bytes.now ≡ decimal whole.0 ++ drop whole.1 bytes.now) }
+    ensures digits { IfSome result (λ whole.
+        drop at bytes.now ≡ decimal whole.0 ++ drop whole.1 bytes.now) }
     ensures within { IfSome result (λ whole. (at < whole.1) × (whole.1 ≤ length bytes.now)) }
     ensures fits { IfSome result (λ whole. whole.0 < 2 ^ 64) }
 {

@@ -25,7 +25,8 @@ module _ {S : Type 0} (Reply : S → Line → Option (List ℕ) → S → Type 0
       → WroteAt Reply 0 before all after a c
   wrote_later {front = front} {out = out} a b c written taken are broken =
       let (went, unwritten, is, did) = broken.written in
-      search (rules, append_assoc, length-append, answered_more Reply taken.answered (rw taken.counted at broken.answered), Appends-trans a b c out went written did)
+      let answered = answered_more Reply taken.answered (rw taken.counted at broken.answered) in
+      search (rules, append_assoc, length-append, Appends-trans a b c out went written did)
 
   -- the taking of a later part of the input ended, or the writing of the replies to what stands there, and so the run
   pub halted_later : {before between : S} {front begun' out : List ℕ} {count' : ℕ} (fault : ServeFault) (after : S) (back bytes : List ℕ) (ps all : List (List ℕ))

@@ -4,7 +4,9 @@ use Rattle.mv_tokens.proofs.Words.{◌≡◌, ℕ, List, [], ◌∷◌, Bool, co
 -- the bits of the n lanes at which plain text stops, as the code finds them
 abbrev pub stops : ℕ → List ℕ → List Bool
 stops n lanes =
-    map (top 7) (zip2 bit_or (zip2 bit_or (zip2 (λ a b. cond (eqb a b) 255 0) lanes (replicate n 34)) (zip2 (λ a b. cond (eqb a b) 255 0) lanes (replicate n 92))) (zip2 (λ a b. cond (ltb a b) 255 0) lanes (replicate n 32)))
+    map (top 7) (zip2 bit_or
+    (zip2 bit_or (zip2 (λ a b. cond (eqb a b) 255 0) lanes (replicate n 34)) (zip2 (λ a b. cond (eqb a b) 255 0) lanes (replicate n 92)))
+    (zip2 (λ a b. cond (ltb a b) 255 0) lanes (replicate n 32)))
 
 stops_are : (n : ℕ) (lanes : List ℕ) → length lanes ≡ n → stops n lanes ≡ map is_stop lanes
 stops_are zero [] long = refl
@@ -14,10 +16,14 @@ stops_are (suc n) (x ∷ xs) long = grind (arith, nat_tests, stops_are n xs)
 
 -- how many of sixteen lanes are plain before the first that is not
 pub counted : (lanes : List ℕ) → length lanes ≡ 16
-    → prefix_len is_plain lanes ≡ cond (eqb (mask_l (stops 16 lanes) % 2 ^ 64) 0) 16 (count_trailing_zeros 64 (mask_l (stops 16 lanes) % 2 ^ 64))
-counted lanes long = rw (stops_are 16 lanes long, mask_l-mod (map is_stop lanes) 64 (omega (arith, length-map lanes is_stop))) (sym (first_set_mask_l is_stop lanes 16 long (omega arith)))
+    → prefix_len is_plain lanes
+    ≡ cond (eqb (mask_l (stops 16 lanes) % 2 ^ 64) 0) 16 (count_trailing_zeros 64 (mask_l (stops 16 lanes) % 2 ^ 64))
+counted lanes long =
+    rw (stops_are 16 lanes long, mask_l-mod (map is_stop lanes) 64 (omega (arith, length-map lanes is_stop)))
+    (sym (first_set_mask_l is_stop lanes 16 long (omega arith)))
 
 -- as many bytes more as are plain in the next sixteen, or fewer
-pub more_plain : (d : List ℕ) (from at n : ℕ) → at + 16 ≤ length d → n ≤ prefix_len is_plain (chunk at 16 d) → PlainBetween d from at → PlainBetween d from (at + n)
+pub more_plain : (d : List ℕ) (from at n : ℕ) → at + 16 ≤ length d → n ≤ prefix_len is_plain (chunk at 16 d)
+    → PlainBetween d from at → PlainBetween d from (at + n)
 more_plain d from at n room few before k past within =
     grind (arith, before k, run_in_chunk_fails is_stop d at 16 (prefix_len is_plain (chunk at 16 d)) 0 room refl k)

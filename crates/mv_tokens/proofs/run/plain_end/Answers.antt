@@ -7,4 +7,5 @@ returns-then-plain-lt-LANES-clause-plain c =
     more_plain c.args.bytes.now c.args.from c.loop-at.at c.plain_count-plain.result (omega arith) (omega arith) c.loop-at.invariant.2
 
 pub loop-at-preserved : goal.loop-at-preserved
-loop-at-preserved c = (omega arith, omega arith, more_plain c.args.bytes.now c.args.from c.loop-at.at 16 (omega arith) (omega arith) c.loop-at.invariant.2)
+loop-at-preserved c =
+    (omega arith, omega arith, more_plain c.args.bytes.now c.args.from c.loop-at.at 16 (omega arith) (omega arith) c.loop-at.invariant.2)

@@ -9,7 +9,8 @@ returns-in_err-take_line-clause-err g c =
     let p = err_from_is_err_and c.from_residual.result c.from_residual.ensures.1 in
     let cut = cut_line c.loop-end.rest.now c.in-Some.end c.in-Some.ensures in
     let (out, grown, stopped) = c.in_err-take_line.ensures.err _ in
-    rw (p.1, p.2) (stopped_more g.S.Answering.replies _ (c.loop-end.invariant.2 ∙ ap (λ l. c.loop-end.invariant.0 ++ l) cut) grown c.loop-end.invariant.1 stopped)
+    rw (p.1, p.2)
+    (stopped_more g.S.Answering.replies _ (c.loop-end.invariant.2 ∙ ap (λ l. c.loop-end.invariant.0 ++ l) cut) grown c.loop-end.invariant.1 stopped)
 
 -- one more line is taken
 pub loop-end-preserved : goal.loop-end-preserved
@@ -30,4 +31,5 @@ pub returns-clause-err : goal.returns-clause-err
 returns-clause-err g c =
     IfErr-weaker c.take_part.result _ _ (λ fault stops.
     let part = stopped_in g.S.Answering.replies _ _ _ [] _ _ _ (absent_unended _ c.in_default.ensures) c.loop-end.self.few stops in
-    stopped_more g.S.Answering.replies _ (simp append-nil c.loop-end.invariant.2) (simp append-nil c.take_part.ensures.replies) c.loop-end.invariant.1 part) c.take_part.ensures.err
+    stopped_more g.S.Answering.replies _ (simp append-nil c.loop-end.invariant.2) (simp append-nil c.take_part.ensures.replies)
+    c.loop-end.invariant.1 part) c.take_part.ensures.err

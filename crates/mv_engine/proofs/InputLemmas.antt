@@ -1,5 +1,5 @@
 -- Lemmas on an input that comes in parts.
-use Rattle.mv_engine.proofs.Words.{◌≡◌, ℕ, ◌+◌, ◌<◌, ◌≤◌, List, [], ◌∷◌, ◌++◌, ◌≢◌, length, refl, sym, ◌∙◌, ap, arith, append_assoc, append-nil, length-append, rules, inl, Option, common_steps, nat_tests, ServeFault, Line, whole_from, rest_from, lines_from, lines_limit, IsUnended, AreAnswered, TookAtMostOne, StopsAt, StopsIn, StoppedAt, Memory, TooManyLines, Taken}
+use Rattle.mv_engine.proofs.Words.{◌≡◌, ℕ, ◌+◌, ◌<◌, ◌≤◌, List, [], ◌∷◌, ◌++◌, ◌≢◌, length, refl, ap, arith, append_assoc, length-append, rules, inl, Option, common_steps, nat_tests, ServeFault, Line, whole_from, rest_from, lines_from, lines_limit, IsUnended, AreAnswered, TookAtMostOne, StopsAt, StopsIn, StoppedAt, Memory, TooManyLines, Taken}
 use Rattle.mv_engine.proofs.PartLemmas.{unended_nil, unended_whole, unended_rest, unended_front}
 use Rattle.mv_engine.proofs.RepliesLemmas.{IsReplies-append, took_later}
 
@@ -28,10 +28,6 @@ stops_longer : (fault : ServeFault) (begun : List ℕ) (count : ℕ) (good bad t
     → StopsAt fault begun count good (bad ++ tail)
 stops_longer fault begun count good bad tail why = grind (arith, length-append)
 
--- no bytes are added
-pub none_added : (kept kept' : List ℕ) → kept' ≡ kept → kept' ≡ kept ++ []
-none_added kept kept' same = same ∙ sym (append-nil kept)
-
 module _ {S : Type 0} (Reply : S → Line → Option (List ℕ) → S → Type 0) where
   -- some pieces were answered, and then the next
   pub answered_more : {a b c : S} {count : ℕ} {ps qs : List (List ℕ)} {out other : List ℕ} → AreAnswered Reply count a ps b out
@@ -55,19 +51,9 @@ module _ {S : Type 0} (Reply : S → Line → Option (List ℕ) → S → Type 0
       → all ≡ front ++ back → whole ≡ whole_from begun front ++ ps → Taken Reply begun count a front begun' count' b out
       → StoppedAt Reply fault begun' count' b back ps c other → StoppedAt Reply fault begun count a all whole c (out ++ other)
   stopped_later {begun} {front} {count = count} fault cut parted first stopped =
+      let answered = answered_more first.answered (rw (first.rest, first.counted) at stopped.answered) in
       let later = whole_from-append begun front stopped.good in
-      record {
-        good = front ++ stopped.good;
-        bad = stopped.bad;
-        cut = grind (arith, append_assoc);
-        why = grind (arith, stops_later fault begun count front stopped.good stopped.bad);
-        unanswered = stopped.unanswered;
-        parted = grind (arith, append_assoc);
-        behind = stopped.behind;
-        answered = grind (arith, answered_more first.answered (rw (first.rest, first.counted) at stopped.answered));
-        left = grind (arith, length-append);
-        left_alone = stopped.left_alone;
-      }
+      search (rules, append_assoc, length-append, stops_later fault begun count front stopped.good stopped.bad)
 
   -- the taking stops behind bytes that end no line
   pub part_stopped : (fault : ServeFault) (begun good bad : List ℕ) (count : ℕ) (ps : List (List ℕ)) (a b : S) → IsUnended good → count ≤ lines_limit
@@ -75,18 +61,10 @@ module _ {S : Type 0} (Reply : S → Line → Option (List ℕ) → S → Type 0
       → StoppedAt Reply fault begun count a (good ++ bad) ps b []
   part_stopped fault begun good bad count ps a b unended few why left alone =
       let none = unended_whole begun good unended in
-      record {
-        good = good;
-        bad = bad;
-        cut = refl;
-        why = why;
-        unanswered = ps;
-        parted = grind arith;
-        behind = a;
-        answered = grind arith;
-        left = grind arith;
-        left_alone = alone;
-      }
+      let parted : ps ≡ whole_from begun good ++ ps = rw none in
+      let answered : AreAnswered Reply count a (whole_from begun good) a [] = grind arith in
+      let after : TookAtMostOne Reply (count + length (whole_from begun good)) a ps b = grind arith in
+      search rules
 
   -- a line that ends in these bytes got no reply
   pub line_unanswered : (begun part tail : List ℕ) (count : ℕ) (a b : S) → IsUnended part → count ≤ lines_limit
@@ -106,23 +84,8 @@ module _ {S : Type 0} (Reply : S → Line → Option (List ℕ) → S → Type 0
   stopped_in fault begun part tail count ps a unended few (good, bad, cut, why) =
       grind (arith, common_steps, append_assoc, part_stopped fault begun good (bad ++ tail) count ps a a, stops_longer, unended_front good bad)
 
-  -- a line is taken of which `part` was left; `kept` are the replies before
-  pub line_taken : (kept kept' begun part begun' : List ℕ) (count count' : ℕ) (a b : S) → IsUnended part → begun' ≡ [] → count' ≡ count + 1
-      → (out : List ℕ) × (kept' ≡ kept ++ out) × AreAnswered Reply count a ((begun ++ part) ∷ []) b out
-      → (out : List ℕ) × (kept' ≡ kept ++ out) × Taken Reply begun count a (part ++ 10 ∷ []) begun' count' b out
-  line_taken kept kept' begun part begun' count count' a b unended none more (out, grown, answered) = search (rest_from-append, unended_rest, unended_whole, whole_from-append)
-
-  -- what stopped a later part of the bytes, stopped their taking; `kept` are the replies before
-  pub grown_stopped : (kept kept' kept'' : List ℕ) {begun front begun' out back all : List ℕ} {count count' : ℕ} {a b c : S} (fault : ServeFault)
-      → all ≡ front ++ back → kept' ≡ kept ++ out → Taken Reply begun count a front begun' count' b out
-      → (other : List ℕ) × (kept'' ≡ kept' ++ other) × StoppedAt Reply fault begun' count' b back (whole_from begun' back) c other
-      → (whole : List ℕ) × (kept'' ≡ kept ++ whole) × StoppedAt Reply fault begun count a all (whole_from begun all) c whole
-  grown_stopped kept kept' kept'' {out = out} fault cut grown first (other, more, stopped) =
-      (out ++ other, grind (arith, append_assoc), stopped_later fault cut (grind (arith, whole_from-append)) first stopped)
-
-  -- one part is taken and then the next; `kept` are the replies before
-  pub grown_taken : (kept kept' kept'' : List ℕ) {begun xs begun' ys begun'' : List ℕ} {count count' count'' : ℕ} {a b c : S}
-      → (out : List ℕ) × (kept' ≡ kept ++ out) × Taken Reply begun count a xs begun' count' b out
-      → (other : List ℕ) × (kept'' ≡ kept' ++ other) × Taken Reply begun' count' b ys begun'' count'' c other
-      → (whole : List ℕ) × (kept'' ≡ kept ++ whole) × Taken Reply begun count a (xs ++ ys) begun'' count'' c whole
-  grown_taken kept kept' kept'' (out, grown, first) (other, more, next) = grind (arith, append_assoc, taken_more first next)
+  -- what stopped a later part of the bytes, stopped their taking
+  pub stopped_more : {begun front begun' out back all other kept : List ℕ} {count count' : ℕ} {a b c : S} (fault : ServeFault) → all ≡ front ++ back
+      → kept ≡ out ++ other → Taken Reply begun count a front begun' count' b out → StoppedAt Reply fault begun' count' b back (whole_from begun' back) c other
+      → StoppedAt Reply fault begun count a all (whole_from begun all) c kept
+  stopped_more fault cut grown first stopped = rw grown (stopped_later fault cut (grind (arith, whole_from-append)) first stopped)

@@ -4,28 +4,20 @@ use Rattle.mv_engine.proofs.InputLemmas.{whole_from-append, rest_from-append}
 use Rattle.mv_engine.proofs.PartLemmas.{unended_nil, unended_whole, unended_rest}
 
 -- The bytes behind what had begun are its pieces, each with its line feed, and what stands behind the last one.
-rejoined : (begun xs : List ℕ) → text_lines (whole_from begun xs) ++ rest_from begun xs ≡ begun ++ xs
+pub rejoined : (begun xs : List ℕ) → text_lines (whole_from begun xs) ++ rest_from begun xs ≡ begun ++ xs
 rejoined begun [] = sym (append-nil begun)
 rejoined begun (x ∷ xs) = grind (arith, rejoined [] xs, rejoined (begun ++ x ∷ []) xs, append_assoc)
-
--- so nothing is lost of an input, and nothing put to it
-pub pieces_rejoin : (bytes : List ℕ) → text_lines (whole_from [] bytes) ++ rest_from [] bytes ≡ bytes
-pieces_rejoin bytes = rejoined [] bytes
 
 -- one more byte that is no line feed
 unended_more : (begun : List ℕ) (x : ℕ) → IsUnended begun → (x ≡ 10 → ⊥) → IsUnended (begun ++ x ∷ [])
 unended_more begun x unended other = λ k within. grind (arith, common_steps, unended k, other)
 
 -- no piece has a line feed in it, where what had begun has none
-unended_from : (begun xs : List ℕ) → IsUnended begun → All IsUnended (whole_from begun xs ++ unless_empty (rest_from begun xs))
+pub unended_from : (begun xs : List ℕ) → IsUnended begun → All IsUnended (whole_from begun xs ++ unless_empty (rest_from begun xs))
 unended_from [] [] unended = search rules
 unended_from (b ∷ begun) [] unended = search rules
 unended_from begun (x ∷ xs) unended =
     search (rules, nat_tests, All-cons, unended_from [] xs unended_nil, unended_from (begun ++ x ∷ []) xs, unended_more begun x unended)
-
--- so none of an input has
-pub pieces_are_unended : (bytes : List ℕ) → All IsUnended (pieces bytes)
-pieces_are_unended bytes = unended_from [] bytes unended_nil
 
 -- a first piece, with its line feed behind it
 first_piece : (piece more : List ℕ) → IsUnended piece → pieces (piece ++ 10 ∷ more) ≡ piece ∷ pieces more
@@ -36,27 +28,17 @@ pub pieces_read_back : (texts : List (List ℕ)) (last : List ℕ) → All IsUne
     → pieces (text_lines texts ++ last) ≡ texts ++ unless_empty last
 pieces_read_back [] last all unended = rw (unended_whole [] last unended, unended_rest [] last unended)
 pieces_read_back (text ∷ texts) last all unended =
-    grind (
-      arith,
-      nat_tests,
-      common_steps,
-      pieces_read_back texts last (λ k d within. all (suc k) d (omega arith)) unended,
-      first_piece text (text_lines texts ++ last) (all 0 text (omega arith)),
-    )
+    let first = first_piece text (text_lines texts ++ last) (all 0 text (omega arith)) in
+    grind (arith, nat_tests, common_steps, pieces_read_back texts last (λ k d within. all (suc k) d (omega arith)) unended)
 
 -- the pieces of two parts with a line feed between them
-between : (front back : List ℕ) → pieces (front ++ 10 ∷ back) ≡ whole_from [] front ++ (rest_from [] front ∷ pieces back)
+pub between : (front back : List ℕ) → pieces (front ++ 10 ∷ back) ≡ whole_from [] front ++ (rest_from [] front ∷ pieces back)
 between front back = grind (arith, nat_tests, append_assoc, rest_from-append, whole_from-append)
 
--- behind a line feed the pieces begin anew
-pub pieces_compose : (front back : List ℕ) → pieces (front ++ 10 ∷ back) ≡ pieces (front ++ 10 ∷ []) ++ pieces back
-pieces_compose front back = grind (arith, nat_tests, append_assoc, between)
-
 -- the bytes of the lines that pieces are, whatever came before them
-lines_bytes : (count : ℕ) (ps : List (List ℕ)) → map (λ line. line.bytes) (lines_from count ps) ≡ flat_map (λ p. unless_empty (strip_last 13 p)) ps
+pub lines_bytes : (count : ℕ) (ps : List (List ℕ)) → map (λ line. line.bytes) (lines_from count ps) ≡ flat_map (λ p. unless_empty (strip_last 13 p)) ps
 lines_bytes count [] = refl
 lines_bytes count (piece ∷ ps) = grind (arith, nat_tests, map-append, lines_bytes (count + 1) ps)
 
--- the lines of two parts with a line feed between them
-pub lines_compose : (front back : List ℕ) → lines_of (pieces (front ++ 10 ∷ back)) ≡ lines_of (pieces front) ++ lines_of (pieces back)
-lines_compose front back = grind (arith, nat_tests, append_assoc, append-nil, between, lines_bytes, flat_map-append)
+-- what the laws rest on
+pub ruleset laws = (nat_tests, append_assoc, append-nil, rejoined, unended_nil, unended_from, pieces_read_back, between, lines_bytes, flat_map-append)

@@ -1,5 +1,5 @@
 -- Lemmas on bytes that end no line, and on the place of the first line feed.
-use Rattle.mv_engine.proofs.Words.{◌≡◌, ℕ, ◌+◌, ◌-◌, ◌<◌, ◌≤◌, suc, List, [], ◌∷◌, ◌++◌, length, refl, sym, arith, append_assoc, length-append, Some, None, take, drop, get_or, drop-cons, append-nil, nat_tests, ne_eqb, eq-eqb, common_steps, take-append-drop, length-take-le, LineTooLong, whole_from, rest_from, line_limit, lines_limit, IsUnended, StopsIn}
+use Rattle.mv_engine.proofs.Words.{◌≡◌, ℕ, ◌+◌, ◌-◌, ◌<◌, ◌≤◌, suc, List, [], ◌∷◌, ◌++◌, length, refl, sym, arith, append_assoc, Some, None, take, drop, get_or, drop-cons, append-nil, nat_tests, ne_eqb, eq-eqb, common_steps, take-append-drop, LineTooLong, whole_from, rest_from, line_limit, lines_limit, IsUnended, StopsAt, StopsIn}
 use Rattle.memchr.specs.Find.{IsFirstByte, is_byte}
 
 -- nothing ends no line
@@ -28,19 +28,11 @@ pub too_long : (begun part : List ℕ) (count : ℕ) → IsUnended part → coun
 too_long begun part count unended few short over =
     let room = line_limit - length begun in
     let fits : room < length part = omega arith in
-    let good = unended_front (take room part) (drop room part) (rw (take-append-drop room part) unended) in (
-      take room part,
-      drop room part,
-      sym (take-append-drop room part),
-      (
-        rw (unended_whole begun (take room part) good) (omega (arith, few)),
-        rw (unended_rest begun (take room part) good, length-append, length-take-le room part (omega (arith, fits))) (omega arith),
-        get_or part room 0,
-        drop (suc room) part,
-        drop-cons part room 0 fits,
-        unended room fits,
-      ),
-    )
+    let good = unended_front (take room part) (drop room part) (rw (take-append-drop room part) unended) in
+    let rest = unended_rest begun (take room part) good in
+    let stops : StopsAt LineTooLong begun count (take room part) (drop room part) =
+    grind (arith, common_steps, unended_whole begun (take room part) good, drop-cons part room 0, unended room) in
+    (_, _, sym (take-append-drop room part), stops)
 
 -- bytes in which no line feed is found end no line
 pub absent_unended : (xs : List ℕ) → IsFirstByte (is_byte 10) xs None → IsUnended xs

@@ -1,5 +1,5 @@
 -- Lemmas on what a run over lines has written.
-use Rattle.mv_engine.proofs.Words.{◌≡◌, ℕ, ◌<◌, ◌≤◌, List, [], ◌++◌, length, sym, arith, append_assoc, append-nil, length-append, take, subst, Option, Result, OnOk, IfErr, common_steps, nat_tests, Appends, Consumes, Appends-trans, Consumes-trans, ServeFault, Read, Write, Start, whole_from, unless_empty, Line, line_limit, lines_limit, WrotePart, AreAnswered, StoppedAt, WroteAt, Served, EndedAt, AreWhole, IsAtEnd, Taken, Halted, inl, inr, refl}
+use Rattle.mv_engine.proofs.Words.{◌≡◌, ℕ, ◌<◌, ◌≤◌, List, [], ◌++◌, length, sym, arith, append_assoc, append-nil, length-append, take, subst, Option, Result, OnOk, IfErr, common_steps, nat_tests, rules, Appends, Consumes, Appends-trans, Consumes-trans, ServeFault, Read, Write, Start, whole_from, unless_empty, Line, line_limit, lines_limit, WrotePart, AreAnswered, StoppedAt, WroteAt, Served, EndedAt, AreWhole, IsAtEnd, Taken, Halted, inl, inr, refl}
 use Rattle.mv_engine.proofs.InputLemmas.{whole_from-append, answered_more, stopped_later}
 
 -- nothing more was read
@@ -14,11 +14,10 @@ module _ {S : Type 0} (Reply : S → Line → Option (List ℕ) → S → Type 0
   unread_at before between bytes begun' out count' rest old new written taken few behind short = grind (arith, nat_tests, common_steps)
 
   -- the write of the replies failed to the lines that `ps` are
-  pub broken : {A : Type 0} (came : Result A ServeFault) (kept ready begun bytes : List ℕ) (ps : List (List ℕ)) (count : ℕ) (before after : S) (old new : Option (List ℕ))
-      → kept ≡ [] → OnOk came ((out : List ℕ) × (ready ≡ kept ++ out) × AreAnswered Reply count before ps after out)
-      → IfErr came (λ fault. (out : List ℕ) × (ready ≡ kept ++ out) × StoppedAt Reply fault begun count before bytes ps after out)
+  pub broken : {A : Type 0} (came : Result A ServeFault) (ready begun bytes : List ℕ) (ps : List (List ℕ)) (count : ℕ) (before after : S) (old new : Option (List ℕ))
+      → OnOk came (AreAnswered Reply count before ps after ready) → IfErr came (λ fault. StoppedAt Reply fault begun count before bytes ps after ready)
       → WrotePart ready old new → WroteAt Reply count before ps after old new
-  broken came kept ready begun bytes ps count before after old new none answered stopped part = grind (arith, append-nil ps)
+  broken came ready begun bytes ps count before after old new answered stopped part = grind (arith, append-nil ps)
 
   -- the replies to a later part of the input broke off
   wrote_later : {before between after : S} {front begun' out : List ℕ} {count' : ℕ} {ps all : List (List ℕ)} (a b c : Option (List ℕ)) → Appends a b out
@@ -26,16 +25,8 @@ module _ {S : Type 0} (Reply : S → Line → Option (List ℕ) → S → Type 0
       → WroteAt Reply 0 before all after a c
   wrote_later {front = front} {out = out} a b c written taken are broken =
       let (went, unwritten, is, did) = broken.written in
-      record {
-        first = whole_from [] front ++ broken.first;
-        unanswered = broken.unanswered;
-        cut = grind (arith, append_assoc);
-        ready = out ++ broken.ready;
-        behind = broken.behind;
-        answered = answered_more Reply taken.answered (rw taken.counted at broken.answered);
-        written = (out ++ went, unwritten, grind (arith, append_assoc), Appends-trans a b c out went written did);
-        left = grind (arith, length-append);
-      }
+      let answered = answered_more Reply taken.answered (rw taken.counted at broken.answered) in
+      search (rules, append_assoc, length-append, Appends-trans a b c out went written did)
 
   -- the taking of a later part of the input ended, or the writing of the replies to what stands there, and so the run
   pub halted_later : {before between : S} {front begun' out : List ℕ} {count' : ℕ} (fault : ServeFault) (after : S) (back bytes : List ℕ) (ps all : List (List ℕ))

@@ -11,7 +11,7 @@ pub use Rattle.std.proofs.KnownBytes.{Appends-trans, Consumes-kept, Consumes-tra
 pub use Rattle.std.proofs.lemmas.Bool.{eq-eqb, ne_eqb}
 pub use Rattle.std.proofs.lemmas.Bool.Decides.{nat_tests}
 pub use Rattle.std.proofs.lemmas.Grind.{common_steps, flat_map-append}
-pub use Rattle.std.proofs.lemmas.List.{length-take-le, map-append, nil_from_length, take-append-drop}
+pub use Rattle.std.proofs.lemmas.List.{map-append, nil_from_length, take-append-drop}
 pub use Rattle.std.proofs.lemmas.List.Elements.{All-cons, filter_map-append}
 pub use Rattle.std.proofs.lemmas.Result.{IfErr-weaker, MatchResult-weaker, err_from_is_err_and, on_ok_weaker}
 pub use Rattle.std.specs.Io.BufRead.{strip_last}

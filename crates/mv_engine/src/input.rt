@@ -81,13 +81,13 @@ impl Input {
 
     /// Takes the next bytes, and answers the lines that end in them.
     fn take_all<S: Answering>(&mut self, answering: &mut S, bytes: &[u8]) -> Result<(), ServeFault>
-        ensures ok { OnOk result (Readied self.old.replies.items self.new.replies.items (λ out.
+        requires empty { self.old.replies.items ≡ [] }
+        ensures ok { OnOk result (
             Taken S.replies self.old.begun.items self.old.lines answering.old bytes.now
-            self.new.begun.items self.new.lines answering.new out)) }
+            self.new.begun.items self.new.lines answering.new self.new.replies.items) }
         ensures err { IfErr result (λ fault.
-            Readied self.old.replies.items self.new.replies.items (λ out.
-            StoppedAt S.replies fault self.old.begun.items self.old.lines answering.old
-            bytes.now (whole_from self.old.begun.items bytes.now) answering.new out)) }
+            StoppedAt S.replies fault self.old.begun.items self.old.lines answering.old bytes.now
+            (whole_from self.old.begun.items bytes.now) answering.new self.new.replies.items) }
     {
         let mut rest = bytes;
         while let Some(end) = memchr(b'\n', rest) {
@@ -181,12 +181,12 @@ impl Input {
 
     /// Answers the last line, if the input doesn't end by a line feed.
     fn finish<S: Answering>(&mut self, answering: &mut S) -> Result<(), ServeFault>
-        ensures ok { OnOk result (Readied self.old.replies.items self.new.replies.items
-            (AreAnswered S.replies self.old.lines answering.old (unless_empty self.old.begun.items) answering.new)) }
+        requires empty { self.old.replies.items ≡ [] }
+        ensures ok { OnOk result (AreAnswered S.replies self.old.lines answering.old
+            (unless_empty self.old.begun.items) answering.new self.new.replies.items) }
         ensures err { IfErr result (λ fault.
-            Readied self.old.replies.items self.new.replies.items (λ out.
-            StoppedAt S.replies fault self.old.begun.items self.old.lines answering.old
-            [] (unless_empty self.old.begun.items) answering.new out)) }
+            StoppedAt S.replies fault self.old.begun.items self.old.lines answering.old []
+            (unless_empty self.old.begun.items) answering.new self.new.replies.items) }
     {
         if self.begun.is_empty() {
             return Ok(());

@@ -194,6 +194,7 @@ fn bucket_of(hash: u32, buckets: usize) -> usize
 }
 
 /// Chains a number, where all before it are chained.
+#[tactic(auto, using(crate::proofs::ChainLemmas::hashes_kept))]
 fn chain(buckets: &mut [Bucket], links: &mut [Link], number: usize)
     requires buckets { 0 < length buckets.old }
     requires within { number < length links.old }

@@ -1,5 +1,3 @@
 pub mod Words
 pub mod LexLemmas
 pub mod RunLemmas
-pub mod WholeLemmas
-pub mod ReaderLemmas

@@ -1,18 +1,17 @@
 //! Takes the plain tokens of a text, one at a time. What is not plain gives none.
+#![tactic(auto, using(crate::proofs::LexLemmas::reading), unfolding(json::specs::Lex::lex, json::specs::Lex::punctuate, json::specs::Word::word))]
 
-ghost use Rattle.std.specs.Prelude.{◌≡◌, ◌+◌, ◌<◌, ◌≤◌, ◌∷◌, ℕ, List, Some, length, drop, get_or, IfSome, false, true, ◌||◌};
+ghost use Rattle.std.specs.Prelude.{◌≡◌, ◌+◌, ◌<◌, ◌≤◌, ◌∷◌, ℕ, List, Some, length, drop, get_or, IfSome, decimal, true, ◌||◌, ◌++◌};
 ghost use Rattle.std.specs.Str.{IsCharBoundary};
 ghost use Rattle.std.specs.Char.{is_ascii_digit};
-ghost use Rattle.json.specs.Word.{ends_word, is_operator, is_space, literal};
-ghost use Rattle.json.specs.Lex.{between, lex, after_value, punctuate, begins_colon};
+ghost use Rattle.json.specs.Word.{ends_word, is_operator, is_space};
+ghost use Rattle.json.specs.Lex.{between, in_word, lex, token as lexeme};
 ghost use Rattle.json.specs.Reads.{token_of};
 ghost use Rattle.json.specs.Token.{number};
 ghost use Rattle.serde_json.specs.Data.{unsigned};
 ghost use Rattle.serde_json.specs.Read.{number_of};
-ghost use Rattle.json.specs.Word.{word};
 ghost use Rattle.json.specs.Cursor.{is_leaf};
-ghost use Rattle.std.specs.List.{list_all};
-ghost use Rattle.mv_tokens.specs.inside.Plain.{GoesOn, Steps, is_letter};
+ghost use Rattle.mv_tokens.specs.inside.Plain.{GoesOn, Steps};
 
 use crate::run::plain_end;
 use crate::whole::whole_at;
@@ -119,8 +118,8 @@ fn plain_string<'a>(text: &'a str, at: usize) -> Option<(Token<'a>, usize)>
 #[inline(always)]
 pub(crate) fn plain_whole(text: &str, from: usize) -> Option<(u64, usize)>
     requires place { IsCharBoundary text.now from }
-    ensures { IfSome result (λ step. (digits : List ℕ)
-        × Steps text.now from (number digits) step.1 × (number_of digits ≡ Some (unsigned step.0))) }
+    ensures steps { IfSome result (λ step. Steps text.now from (number (decimal step.0)) step.1) }
+    ensures is { IfSome result (λ step. number_of (decimal step.0) ≡ Some (unsigned step.0)) }
 {
     let bytes = text.as_bytes();
     let at = past_blanks(text, from);
@@ -137,8 +136,9 @@ fn plain_number<'a>(text: &'a str, at: usize) -> Option<(u64, &'a str, usize)>
     requires place { IsCharBoundary text.now at }
     requires within { at < length text.now }
     requires digit { is_ascii_digit (get_or text.now at 0) ≡ true }
-    ensures steps { IfSome result (λ step. Steps text.now at (number step.1.now) step.2) }
-    ensures is { IfSome result (λ step. number_of step.1.now ≡ Some (unsigned step.0)) }
+    ensures steps { IfSome result (λ step. Steps text.now at (number (decimal step.0)) step.2) }
+    ensures digits { IfSome result (λ step. step.1.now ≡ decimal step.0) }
+    ensures is { IfSome result (λ step. number_of (decimal step.0) ≡ Some (unsigned step.0)) }
 {
     let bytes = text.as_bytes();
     let (number, end) = whole_at(bytes, at)?;
@@ -157,10 +157,9 @@ fn plain_word<'a>(
     token: Token<'a>,
 ) -> Option<(Token<'a>, usize)>
     requires within { at < length text.now }
-    requires letter { is_letter (get_or text.now at 0) ≡ true }
-    requires letters { list_all is_letter name.now ≡ true }
-    requires word { word (drop at text.now) ≡ literal name.now (token_of token) (drop at text.now) }
-    requires good { is_leaf (token_of token) ≡ true }
+    requires word { (rest : List ℕ) → ends_word rest ≡ true
+        → lex between (name.now ++ rest) ≡ lexeme (token_of token) ∷ lex in_word rest }
+    requires leaf { is_leaf (token_of token) ≡ true }
     ensures { IfSome result (λ step. Steps text.now at (token_of step.0) step.1) }
 {
     let bytes = text.as_bytes();

@@ -1,4 +1,5 @@
 //! The reader of tokens.
+#![tactic(auto, using(crate::proofs::LexLemmas::reading), unfolding(json::specs::Lex::lex, json::specs::Lex::punctuate))]
 
 ghost use Rattle.std.specs.Prelude.{◌≡◌, ◌≢◌, ◌≤◌, ◌∷◌, [], ℕ, List, Some, length, IfSome, IfNone, IsTrue, IsFalse, MatchOption};
 ghost use Rattle.std.specs.Str.{IsCharBoundary};

@@ -1,8 +1,9 @@
 //! Finds where the plain bytes of a text end.
 
-ghost use Rattle.std.specs.Prelude.{◌≡◌, ◌+◌, ◌≤◌, length, drop};
+ghost use Rattle.std.specs.Prelude.{◌≡◌, ◌≤◌, length};
 ghost use Rattle.std.specs.List.{prefix_len};
 ghost use Rattle.json.specs.Run.{is_plain};
+ghost use Rattle.json.specs.Written.{PlainBetween};
 
 use std::simd::prelude::*;
 
@@ -14,8 +15,8 @@ const LANES: usize = 16;
 #[inline(always)]
 pub(crate) fn plain_end(bytes: &[u8], from: usize) -> usize
     requires within { from ≤ length bytes.now }
-    ensures within { result ≤ length bytes.now }
-    ensures value { result ≡ from + prefix_len is_plain (drop from bytes.now) }
+    ensures within { (from ≤ result) × (result ≤ length bytes.now) }
+    ensures plain { PlainBetween bytes.now from result }
 {
     let mut at = from;
     while bytes.len() - at >= LANES {
@@ -30,6 +31,7 @@ pub(crate) fn plain_end(bytes: &[u8], from: usize) -> usize
 
 /// How many bytes of sixteen are plain before the first that is not.
 #[inline(always)]
+#[tactic(auto, using(crate::proofs::RunLemmas::counted))]
 fn plain_count(lanes: u8x16) -> usize
     ensures { result ≡ prefix_len is_plain lanes }
 {
@@ -47,8 +49,8 @@ fn plain_count(lanes: u8x16) -> usize
 #[inline(always)]
 fn plain_end_by_byte(bytes: &[u8], from: usize) -> usize
     requires within { from ≤ length bytes.now }
-    ensures within { result ≤ length bytes.now }
-    ensures value { result ≡ from + prefix_len is_plain (drop from bytes.now) }
+    ensures within { (from ≤ result) × (result ≤ length bytes.now) }
+    ensures plain { PlainBetween bytes.now from result }
 {
     let mut at = from;
     while at < bytes.len() && is_plain(bytes[at]) {

@@ -1,8 +1,7 @@
 //! Whole numbers.
 
-ghost use Rattle.std.specs.Prelude.{◌≡◌, ◌<◌, ◌≤◌, ◌+◌, ◌-◌, ◌^◌, decimal, drop, get_or, length, take, true, IfSome, Some};
+ghost use Rattle.std.specs.Prelude.{◌≡◌, ◌<◌, ◌≤◌, ◌^◌, ◌++◌, decimal, drop, get_or, length, true, IfSome, Some};
 ghost use Rattle.std.specs.Char.{is_ascii_digit};
-ghost use Rattle.std.specs.List.{prefix_len};
 ghost use Rattle.serde_json.specs.Data.{unsigned};
 ghost use Rattle.serde_json.specs.Read.{number_of};
 
@@ -25,13 +24,13 @@ pub fn whole_of(text: &str) -> Option<u64>
 
 /// The number whose digits begin at a place, and the place behind them. It has at most 18 of them, and no zero in front.
 #[inline(always)]
+#[tactic(auto, using(crate::proofs::LexLemmas::digits))]
 pub(crate) fn whole_at(bytes: &[u8], at: usize) -> Option<(u64, usize)>
     requires within { at < length bytes.now }
     requires digit { is_ascii_digit (get_or bytes.now at 0) ≡ true }
-    ensures digits { IfSome result (λ whole. take (whole.1 - at) (drop at bytes.now) ≡ decimal whole.0) }
-    ensures end { IfSome result (λ whole. whole.1 ≡ at + prefix_len is_ascii_digit (drop at bytes.now)) }
-    ensures within { IfSome result (λ whole. whole.1 ≤ length bytes.now) }
-    ensures zero { IfSome result (λ whole. get_or bytes.now at 0 ≡ 48 → whole.1 ≤ at + 1) }
+    ensures digits { IfSome result (λ whole.
+        drop at bytes.now ≡ decimal whole.0 ++ drop whole.1 bytes.now) }
+    ensures within { IfSome result (λ whole. (at < whole.1) × (whole.1 ≤ length bytes.now)) }
     ensures fits { IfSome result (λ whole. whole.0 < 2 ^ 64) }
 {
     let mut number = u64::from(bytes[at] - b'0');

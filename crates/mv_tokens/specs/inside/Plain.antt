@@ -1,5 +1,5 @@
 -- Where the tokens of a text go on.
-use Rattle.std.specs.Prelude.{◌≡◌, ℕ, List, ◌∷◌, drop, false, Bool, nat_le, ◌&&◌}
+use Rattle.std.specs.Prelude.{◌≡◌, ℕ, List, ◌∷◌, drop, false}
 use Rattle.std.specs.Str.{IsCharBoundary}
 use Rattle.json.specs.Token.{Token}
 use Rattle.json.specs.Lex.{between, lex, after_value, punctuate, begins_colon, tokens}
@@ -18,7 +18,3 @@ pub record GoesOn (text : List ℕ) (end : ℕ) (at : ℕ) : Type 0 where
   pub tokens : punctuate after_value (lex between (drop end text)) ≡ tokens_from text at
   pub no_colon : begins_colon (lex between (drop end text)) ≡ false
   pub place : IsCharBoundary text at
-
--- a letter of a word, as `null`
-abbrev pub is_letter : ℕ → Bool
-is_letter byte = nat_le 97 byte && nat_le byte 122

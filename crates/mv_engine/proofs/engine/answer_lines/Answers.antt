@@ -45,17 +45,13 @@ returns-clause-ended g c = search (rules, unread_at)
 
 -- and so it is known what was written
 pub returns-in_err-count-clause-err : goal.returns-in_err-count-clause-err
-returns-in_err-count-clause-err g c =
-    IfErr-weaker c.from_residual.result _ _ (λ fault (bytes, took, ended). (bytes, took, (_, ended))) (returns-in_err-count-clause-ended g c)
+returns-in_err-count-clause-err g c = search (rules, IfErr-weaker, returns-in_err-count-clause-ended g c)
 
 pub returns-in_err-answer_block-clause-err : goal.returns-in_err-answer_block-clause-err
-returns-in_err-answer_block-clause-err g c =
-    IfErr-weaker c.from_residual-in_err-answer_block.result _ _ (λ fault (bytes, took, ended). (bytes, took, (_, ended)))
-    (returns-in_err-answer_block-clause-ended g c)
+returns-in_err-answer_block-clause-err g c = search (rules, IfErr-weaker, returns-in_err-answer_block-clause-ended g c)
 
 pub returns-then-count-eq0-clause-err : goal.returns-then-count-eq0-clause-err
-returns-then-count-eq0-clause-err g c =
-    IfErr-weaker c.answer_last.result _ _ (λ fault (bytes, took, ended). (bytes, took, (_, ended))) (returns-then-count-eq0-clause-ended g c)
+returns-then-count-eq0-clause-err g c = search (rules, IfErr-weaker, returns-then-count-eq0-clause-ended g c)
 
 pub returns-clause-err : goal.returns-clause-err
 returns-clause-err g c = let (bytes, took, ended) = returns-clause-ended g c in (bytes, took, (_, ended))

@@ -1,14 +1,11 @@
-use Rattle.mv_tokens.proofs.Words.{◌≤◌, ◌+◌, length, arith, rules}
-use Rattle.mv_tokens.proofs.RunLemmas.{run_ends, run_goes_on}
+use Rattle.mv_tokens.proofs.Words.{arith}
+use Rattle.mv_tokens.proofs.RunLemmas.{more_plain}
 use Rattle.mv_tokens.proofs.run.plain_end.Goals as goal
 
-pub returns-then-plain-lt-LANES-clause-value : goal.returns-then-plain-lt-LANES-clause-value
-returns-then-plain-lt-LANES-clause-value c =
-    let ends = run_ends c.args.bytes.now c.loop-at.at 16 (omega arith) (search rules) in
-    omega (arith, ends, c.plain_count-plain.ensures, c.loop-at.invariant.1)
+pub returns-then-plain-lt-LANES-clause-plain : goal.returns-then-plain-lt-LANES-clause-plain
+returns-then-plain-lt-LANES-clause-plain c =
+    more_plain c.args.bytes.now c.args.from c.loop-at.at c.plain_count-plain.result (omega arith) (omega arith) c.loop-at.invariant.2
 
 pub loop-at-preserved : goal.loop-at-preserved
 loop-at-preserved c =
-    let room : c.loop-at.at + 16 ≤ length c.args.bytes.now = omega arith in
-    let on = run_goes_on c.args.bytes.now c.loop-at.at 16 room (search rules) in
-    (room, omega (arith, on, c.loop-at.invariant.1))
+    (omega arith, omega arith, more_plain c.args.bytes.now c.args.from c.loop-at.at 16 (omega arith) (omega arith) c.loop-at.invariant.2)

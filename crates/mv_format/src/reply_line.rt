@@ -1,6 +1,7 @@
 //! The replies, each written as the canonical text of one JSON object.
 
 ghost use Rattle.std.specs.Prelude.{◌≡◌, ◌++◌, ◌∷◌, [], codes, IfOk, None, string_bytes};
+ghost use Rattle.json.specs.Print.{escape};
 ghost use Rattle.serde_json.specs.Written.{compact_text};
 ghost use Rattle.mv_format.specs.Objects.{object_of};
 ghost use Rattle.mv_format.specs.Words.{string};
@@ -60,6 +61,7 @@ fn line_text<T: ToJson>(alloc: Global, reply: &T) -> Result<String, AllocError>
 impl ToJson for Answered {
     ghost value = { answer_value };
 
+    #[tactic(auto, unfolding(json::specs::Print::escape_byte))]
     fn write(&self, writer: &mut TextWriter) -> Result<(), AllocError> {
         match self {
             Answered::Unread(fault) => fault.write(writer),
@@ -74,6 +76,7 @@ impl ToJson for Answered {
 impl ToJson for Reply {
     ghost value = { reply_value };
 
+    #[tactic(auto, unfolding(json::specs::Print::escape_byte))]
     fn write(&self, writer: &mut TextWriter) -> Result<(), AllocError> {
         match self {
             Reply::Submitted { k } => write_numbered(writer, "submitted", *k),
@@ -163,13 +166,13 @@ fn write_message_fault(
     }
 }
 
-/// Writes an object with one whole number. It is inlined for its key, as `TextWriter::key` is.
-#[inline(always)]
+/// Writes an object with one whole number, under a key that needs no escape.
 fn write_numbered(writer: &mut TextWriter, key: &'static str, number: u32) -> Result<(), AllocError>
+    requires plain { escape key.now ≡ key.now }
     ensures { Adds result writer.old writer.new (numbered key.now number) }
 {
     writer.begin_object()?;
-    writer.key(key)?;
+    writer.plain_key(key)?;
     writer.u64(u64::from(number))?;
     writer.end_object()
 }

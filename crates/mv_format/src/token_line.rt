@@ -17,7 +17,7 @@ use json::{Scratch, Token};
 use mv_json::take_message;
 use mv_machine::Step;
 use mv_message::{Message, Shared};
-use mv_tokens::Reader;
+use mv_tokens::{Reader, text_of};
 use std::alloc::Global;
 
 /// The step that a line asks, its keys in any order, in memory that is kept from line to line. What asks none, or has a key twice,
@@ -25,9 +25,7 @@ use std::alloc::Global;
 pub fn read_step(alloc: Global, scratch: &mut Scratch, line: &[u8]) -> Option<Step>
     ensures { IfSome result (λ step. read_line line.now ≡ Ok (AsksStep step)) }
 {
-    let Ok(text) = simdutf8::basic::from_utf8(line) else {
-        return None;
-    };
+    let text = text_of(line)?;
     if scratch.reserve(text.len()).is_err() {
         return None;
     }

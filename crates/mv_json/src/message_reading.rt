@@ -15,7 +15,7 @@ use crate::part_reading::take_members;
 use crate::readers::message_at;
 use json::Scratch;
 use mv_message::{Message, Text};
-use mv_tokens::Reader;
+use mv_tokens::{Reader, text_of};
 use serde_json::Value;
 use std::alloc::Global;
 
@@ -97,9 +97,7 @@ fn message_in(alloc: Global, object: &mut Object<'_>) -> Result<Message, Message
 fn read_by_tokens(alloc: Global, scratch: &mut Scratch, bytes: &[u8]) -> Option<Message>
     ensures { IfSome result (λ message. read_bytes bytes.now ≡ Ok message) }
 {
-    let Ok(text) = simdutf8::basic::from_utf8(bytes) else {
-        return None;
-    };
+    let text = text_of(bytes)?;
     if scratch.reserve(text.len()).is_err() {
         return None;
     }

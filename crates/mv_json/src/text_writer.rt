@@ -128,7 +128,7 @@ impl TextWriter {
     /// Writes the key of a member whose name needs no escape, without a look at it.
     #[inline(always)]
     #[tactic(auto, using(crate::proofs::WriterLemmas::key_put))]
-    pub(crate) fn plain_key(&mut self, name: &str) -> Result<(), AllocError>
+    pub fn plain_key(&mut self, name: &str) -> Result<(), AllocError>
         requires plain { escape name.now ≡ name.now }
         ensures { Puts result self.old self.new (key name.now ∷ []) }
     {

@@ -26,7 +26,9 @@
 mod plain;
 mod reader;
 mod run;
+mod text;
 mod whole;
 
 pub use reader::Reader;
+pub use text::text_of;
 pub use whole::whole_of;

@@ -56,7 +56,6 @@ pub(crate) fn serial_of(object: LineObject<'_>, field: LineField) -> Result<Seri
 
 /// The whole number of a field, up to 4,294,967,295: M3, M5.
 #[tactic(auto, using(crate::proofs::LineFieldsLemmas::number_told), unfolding(crate::specs::Reading::number_at))]
-#[inline(never)]
 pub(crate) fn number_of(object: LineObject<'_>, field: LineField) -> Result<u32, LineFault>
     ensures { MayGive (number_at field) object.entry result }
 {

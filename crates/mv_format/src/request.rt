@@ -1,7 +1,6 @@
 //! What a line asks.
 
-ghost use Rattle.std.specs.Prelude.{Ok};
-ghost use Rattle.mv_format.specs.Words.{GivesOr, view, ◌and_then◌};
+ghost use Rattle.mv_format.specs.Words.{GivesOr, view};
 ghost use Rattle.mv_format.specs.inside.LineFields.{MayGive, asked_by};
 ghost use Rattle.mv_format.specs.Requests.{read_request, read_line};
 
@@ -45,7 +44,6 @@ impl Request {
     /// The first of these that holds is the fault: M1, the bytes are no JSON; M2, the value is no object; M3 or M5 of
     /// `do`; M4 with the first key, in byte order, that such lines do not have; then the faults of the fields, in byte
     /// order of their names. Want of memory may stand in place of any answer.
-    #[inline(never)]
     #[tactic(auto, using(mv_json::proofs::CallerLemmas::utf8_test, mv_json::proofs::CallerLemmas::utf8_fact))]
     pub fn read(alloc: Global, line: &[u8]) -> Result<Request, LineFault>
         ensures { GivesOr result (read_line line.now) LineFault.Memory }
@@ -79,17 +77,62 @@ impl Request {
         if let Some(key) = first_unknown(members, kind.fields()) {
             return Err(LineFault::Unknown(Text::new(String::from_str(alloc, key)?)));
         }
+        Request::of_kind(alloc, kind, object)
+    }
+
+    /// What the fields of a line of that kind ask, each of which is read in byte order of its name.
+    pub(crate) fn of_kind(
+        alloc: Global,
+        kind: LineKind,
+        object: LineObject<'_>,
+    ) -> Result<Request, LineFault>
+        ensures { MayGive (asked_by kind) object.entry result }
+    {
         match kind {
-            LineKind::Open => Request::open_of(alloc, value),
-            _ => Ok(Request::Step(step_of(alloc, kind, object)?)),
+            LineKind::Open => Request::open_of(alloc, object),
+            LineKind::Submit => Ok(Request::Step(Step::Submit {
+                from: number_of(object, LineField::From)?,
+                message: message_of(alloc, object)?,
+            })),
+            LineKind::Route => Ok(Request::Step(Step::Route {
+                from: number_of(object, LineField::From)?,
+            })),
+            LineKind::Relay => Ok(Request::Step(Step::Relay {
+                from: number_of(object, LineField::From)?,
+                to: number_of(object, LineField::To)?,
+            })),
+            LineKind::Apply => Ok(Request::Step(Step::Apply {
+                from: number_of(object, LineField::From)?,
+                to: number_of(object, LineField::To)?,
+            })),
+            LineKind::Repeat => Ok(Request::Step(Step::Repeat {
+                from: number_of(object, LineField::From)?,
+                number: number_of(object, LineField::Number)?,
+                to: number_of(object, LineField::To)?,
+            })),
+            LineKind::Close => Ok(Request::Step(Step::Close {
+                from: number_of(object, LineField::From)?,
+                to: number_of(object, LineField::To)?,
+            })),
+            LineKind::Lose => Ok(Request::Step(Step::Lose {
+                from: number_of(object, LineField::From)?,
+                to: number_of(object, LineField::To)?,
+            })),
+            LineKind::Verify => Request::verify_of(object),
+            LineKind::Verdict => Ok(Request::Step(Step::Verdict {
+                party: number_of(object, LineField::Party)?,
+                q: number_of(object, LineField::Q)?,
+            })),
         }
     }
 
-    /// The opening that the fields of a line ask.
-    fn open_of(alloc: Global, value: &Value) -> Result<Request, LineFault>
-        ensures { GivesOr result (asked_by LineKind.Open (view value.now)) LineFault.Memory }
+    /// The opening that the fields of a line ask. It is read of a value alone.
+    fn open_of(alloc: Global, object: LineObject<'_>) -> Result<Request, LineFault>
+        ensures { MayGive (asked_by LineKind.Open) object.entry result }
     {
-        let object = LineObject::Value(value);
+        let LineObject::Value(value) = object else {
+            return Err(LineFault::Memory);
+        };
         Ok(Request::Open {
             parties: market_lists_of(alloc, value, LineField::Parties)?,
             submissions: number_of(object, LineField::Submissions)?,
@@ -98,62 +141,15 @@ impl Request {
             wire: number_of(object, LineField::Wire)?,
         })
     }
-}
 
-/// The step that the fields of a line of that kind ask, each of which is read in byte order of its name. Of an opening, which asks
-/// none, the answer is `LineFault::Memory`.
-pub(crate) fn step_of(
-    alloc: Global,
-    kind: LineKind,
-    object: LineObject<'_>,
-) -> Result<Step, LineFault>
-    ensures { MayGive (asked_by kind) object.entry (result and_then λ step. Ok (Request.Step step)) }
-{
-    match kind {
-        LineKind::Open => Err(LineFault::Memory),
-        LineKind::Submit => Ok(Step::Submit {
-            from: number_of(object, LineField::From)?,
-            message: message_of(alloc, object)?,
-        }),
-        LineKind::Route => Ok(Step::Route {
-            from: number_of(object, LineField::From)?,
-        }),
-        LineKind::Relay => Ok(Step::Relay {
-            from: number_of(object, LineField::From)?,
-            to: number_of(object, LineField::To)?,
-        }),
-        LineKind::Apply => Ok(Step::Apply {
-            from: number_of(object, LineField::From)?,
-            to: number_of(object, LineField::To)?,
-        }),
-        LineKind::Repeat => Ok(Step::Repeat {
-            from: number_of(object, LineField::From)?,
-            number: number_of(object, LineField::Number)?,
-            to: number_of(object, LineField::To)?,
-        }),
-        LineKind::Close => Ok(Step::Close {
-            from: number_of(object, LineField::From)?,
-            to: number_of(object, LineField::To)?,
-        }),
-        LineKind::Lose => Ok(Step::Lose {
-            from: number_of(object, LineField::From)?,
-            to: number_of(object, LineField::To)?,
-        }),
-        LineKind::Verify => verify_of(object),
-        LineKind::Verdict => Ok(Step::Verdict {
-            party: number_of(object, LineField::Party)?,
-            q: number_of(object, LineField::Q)?,
-        }),
+    /// The verifying of a pack that the fields of a line ask.
+    fn verify_of(object: LineObject<'_>) -> Result<Request, LineFault>
+        ensures { MayGive (asked_by LineKind.Verify) object.entry result }
+    {
+        let gtin = gtin_of(object, LineField::Gtin)?;
+        let party = number_of(object, LineField::Party)?;
+        let serial = serial_of(object, LineField::Serial)?;
+        let key = PackKey { gtin, serial };
+        Ok(Request::Step(Step::Verify { party, key }))
     }
-}
-
-/// The verifying of a pack that the fields of a line ask.
-fn verify_of(object: LineObject<'_>) -> Result<Step, LineFault>
-    ensures { MayGive (asked_by LineKind.Verify) object.entry (result and_then λ step. Ok (Request.Step step)) }
-{
-    let gtin = gtin_of(object, LineField::Gtin)?;
-    let party = number_of(object, LineField::Party)?;
-    let serial = serial_of(object, LineField::Serial)?;
-    let key = PackKey { gtin, serial };
-    Ok(Step::Verify { party, key })
 }

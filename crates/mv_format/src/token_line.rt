@@ -7,12 +7,10 @@ ghost use Rattle.mv_format.specs.inside.LineFields.{Asks, BeginWithFields, Begin
 ghost use Rattle.mv_format.specs.declared.field.LineField.{LineField as AField};
 ghost use Rattle.mv_format.specs.inside.LineFields.LinePart.{Message as InMessage, Number};
 ghost use Rattle.mv_format.specs.Requests.{read_line, read_request};
-ghost use Rattle.mv_format.specs.declared.request.Request.TheVariants.{Step as AsksStep};
 
-use crate::LineField;
 use crate::kind::kind_called;
 use crate::line_fields::{LineFields, LineObject, puts};
-use crate::request::step_of;
+use crate::{LineField, Request};
 use json::{Scratch, Token};
 use mv_json::take_message;
 use mv_machine::Step;
@@ -23,7 +21,7 @@ use std::alloc::Global;
 /// The step that a line asks, its keys in any order, in memory that is kept from line to line. What asks none, or has a key twice,
 /// gives none, and so does a refusal of memory: [`Request::read`] says which.
 pub fn read_step(alloc: Global, scratch: &mut Scratch, line: &[u8]) -> Option<Step>
-    ensures { IfSome result (λ step. read_line line.now ≡ Ok (AsksStep step)) }
+    ensures { IfSome result (λ step. read_line line.now ≡ Ok (Request.Step step)) }
 {
     let text = text_of(line)?;
     if scratch.reserve(text.len()).is_err() {
@@ -39,7 +37,7 @@ pub fn read_step(alloc: Global, scratch: &mut Scratch, line: &[u8]) -> Option<St
 
 /// Takes the step that the object asks which is next.
 fn take_step(alloc: Global, reader: &mut Reader<'_>) -> Option<Step>
-    ensures { IfSome result (λ step. Asks reader.old (AsksStep step) reader.new) }
+    ensures { IfSome result (λ step. Asks reader.old (Request.Step step) reader.new) }
 {
     if !reader.takes_opening() {
         return None;
@@ -53,16 +51,16 @@ fn take_step(alloc: Global, reader: &mut Reader<'_>) -> Option<Step>
 
 /// The step that a line of these fields asks, where each is one of its kind.
 fn step_met(alloc: Global, met: &LineFields<'_>) -> Option<Step>
-    ensures { IfSome result (λ step. (value : Data) → HasFields value met.now → read_request value ≡ Ok (AsksStep step)) }
+    ensures { IfSome result (λ step. (value : Data) → HasFields value met.now → read_request value ≡ Ok (Request.Step step)) }
 {
     let kind = kind_called(met.text(LineField::Do)?)?;
     if !met.are_among(kind.fields()) {
         return None;
     }
-    let Ok(step) = step_of(alloc, kind, LineObject::Met(met)) else {
-        return None;
-    };
-    Some(step)
+    match Request::of_kind(alloc, kind, LineObject::Met(met)) {
+        Ok(Request::Step(step)) => Some(step),
+        _ => None,
+    }
 }
 
 /// Takes the rest of an object, behind its opening brace, with its fields in any order, each once, and says whether it could.

@@ -8,6 +8,7 @@ use std::str;
 const MANY: usize = 64;
 
 /// The text that bytes are, where they are UTF-8. Fewer bytes are looked at without a call of the library for many.
+#[inline(always)]
 pub fn text_of(bytes: &[u8]) -> Option<&str>
     ensures { MatchOption result (¬ (IsUtf8 bytes.now)) (λ text. (text.now ≡ bytes.now) × IsUtf8 bytes.now) }
 {

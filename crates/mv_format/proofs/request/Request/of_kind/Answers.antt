@@ -1,7 +1,10 @@
 use Rattle.mv_format.proofs.Words.{rules}
-use Rattle.mv_format.proofs.request.step_of.Goals as goal
+use Rattle.mv_format.proofs.request.Request.of_kind.Goals as goal
 
 -- each kind by its fields
+pub returns-in-Open : goal.returns-in-Open
+returns-in-Open c = rw c.in-Open.is c.open_of.ensures
+
 pub returns-in-Verify : goal.returns-in-Verify
 returns-in-Verify c = rw c.in-Verify.is c.verify_of.ensures
 

@@ -104,12 +104,8 @@ serials_taken value old new field x has taken =
 pub not_there : (field : Field) (value : Data) (entries : List Entry) → HasEntries value entries → All (λ other. other.field ≢ field) entries
     → get (field_name field) value ≡ None
 not_there field value entries has apart =
-    grind (
-      arith,
-      All-map (λ name. name ≢ field_name field) entry_name entries (λ k d h. name_apart _ field (apart k d h)),
-      none_named,
-      weaker,
-    )
+    let others = All-map (λ name. name ≢ field_name field) entry_name entries (λ k d h. name_apart _ field (apart k d h)) in
+    grind (arith, others, none_named, weaker)
 
 -- what stands in a field, stands there
 pub is_there : (field : Field) (value found : Data) (place : Place) → get (field_name field) value ≡ Some found → IsPlace found place → IsThere field value place

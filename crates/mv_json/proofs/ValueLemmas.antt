@@ -45,15 +45,8 @@ record ReadsBack (d : Data) : Type 0 where
 -- a value whose outline reads as it is what its text is read as
 text_of_value : (d : Data) → tree.depth (outline d) ≤ max_depth → ReadsBack d → read (compact_text d) ≡ Some d
 text_of_value d shallow back =
-    grind (
-      arith,
-      back.numbers,
-      print-outline d,
-      tokens-print (tokens_of d),
-      ArePrintable-json_tokens,
-      append-nil (tokens_of d),
-      value-json_tokens,
-    )
+    let printable = ArePrintable-json_tokens (outline d) back.numbers in
+    grind (arith, print-outline d, tokens-print (tokens_of d) printable, append-nil (tokens_of d), value-json_tokens)
 
 texts_have_numbers : (texts : List (List ℕ)) → tree.ItemsHaveNumbers (items_outline (strings texts))
 texts_have_numbers [] = tt

@@ -1,5 +1,5 @@
 -- What stands in the fields of a line: its tokens, and what it asks.
-use Rattle.mv_format.proofs.Words.{All, AreMet, Contains, Contains-append_left, Contains-push, Data, IsUtf8, LineField, LineKind, List, None, Ok, Option, Request, Some, Token, [], all_met, ap, arith, as_object, begin_object, begun_shorter, converted_some, end_object, field_name, get, IfSome, inl, inr, option_map, string, text_begins, is_some, key, keys_of, kind_at, kind_named, known_only, length, lt-ltb, message_at, names_of, nat_tests, none_met, none_unknown, number_at, one_more_met, read_line, read_request, refl, request_at, stands, subst, sym, text_at, tokens, true, unsigned, whole, whole_begins, ℕ, ◌++◌, ◌<◌, ◌^◌, ◌∙◌, ◌∷◌, ◌≡◌, ◌≢◌, ◌⊎◌, utf8_test, AreAll, Asks, asked_by, BeginWithFields, BeginWithPart, HasFields, IsMet, IsPart, LinePart, Meets, Message, Number, Text, met_of, shape_of}
+use Rattle.mv_format.proofs.Words.{All, AreMet, Contains-append_left, Contains-push, Data, IsUtf8, LineField, LineKind, List, None, Ok, Option, Request, Some, Token, [], all_met, ap, arith, as_object, begin_object, begun_shorter, converted_some, end_object, field_name, get, IfSome, option_map, string, text_begins, is_some, key, keys_of, kind_at, kind_named, known_only, length, lt-ltb, message_at, names_of, nat_tests, none_met, none_unknown, number_at, one_more_met, read_line, read_request, refl, request_at, stands, text_at, tokens, true, unsigned, whole, whole_begins, ℕ, ◌++◌, ◌<◌, ◌^◌, ◌∷◌, ◌≡◌, ◌≢◌, ◌⊎◌, utf8_test, AreAll, Asks, asked_by, BeginWithFields, BeginWithPart, HasFields, IsMet, IsPart, LinePart, Meets, Message, Number, Text, met_of, shape_of}
 use Rattle.mv_format.specs.declared.line_fields.LineFields.{LineFields}
 use Rattle.json.specs.Json.{value}
 use Rattle.mv_message.specs.declared.message.Message.{Message as AMessage}
@@ -27,46 +27,26 @@ name_apart f g apart same = grind (arith, nat_tests)
 abbrev pub AreFields : List Token → LineFields → List Token → Type 0
 AreFields start met rest = (named : List LineField) × AreMet field_name (IsMet met) 2 start named rest × AreAll met named
 
--- a field that was not met is none that was
-not_met : (met : LineFields) (field : LineField) → met_of met field ≡ None → is_some (met_of met field) ≡ true → ⊥
-not_met met field none some = grind arith
-
 pub no_field : (start : List Token) (met : LineFields) → ((field : LineField) → met_of met field ≡ None) → AreFields start met start
-no_field start met none = ([], none_met field_name (IsMet met) 2 start, λ field is. absurd (not_met met field (none field) is))
-
--- a field that was met before still is
-other_kept : (old new : LineFields) (field other : LineField) → (other ≡ field) ⊎ (met_of new other ≡ met_of old other) → other ≢ field
-    → met_of new other ≡ met_of old other
-other_kept old new field other (inl same) apart = absurd (apart same)
-other_kept old new field other (inr kept) apart = kept
-
--- with a field more, all are there that were met
-among_more : (old new : LineFields) (field other : LineField) (named : List LineField) → (other ≡ field) ⊎ (met_of new other ≡ met_of old other)
-    → AreAll old named → is_some (met_of new other) ≡ true → Contains (named ++ field ∷ []) other
-among_more old new field other named (inl same) all there = subst (Contains (named ++ field ∷ [])) (sym same) (Contains-push named field)
-among_more old new field other named (inr kept) all there = Contains-append_left named (field ∷ []) other (all other (rw kept at there))
-
--- a field that was not met is none of those that were
-apart_from : (met : LineFields) (field other : LineField) (part : LinePart) → met_of met field ≡ None → met_of met other ≡ Some part → other ≢ field
-apart_from met field other part free stood = grind arith
+no_field start met none = ([], none_met field_name (IsMet met) 2 start, λ field is. grind (arith, none field))
 
 pub one_more_field : (start more rest : List Token) (old new : LineFields) (field : LineField) (part : LinePart)
     → AreFields start old (key (field_name field) ∷ more) → BeginWithPart more part rest → Meets old field part new → AreFields start new rest
 one_more_field start more rest old new field part (named, are, all) (found, begins, is) meets =
     let apart : All (λ other. other ≢ field) named = λ k d h.
-    let (there, at, (was, stood, so)) = are.says k d h in apart_from old field _ was meets.free stood in
+    let (there, at, (was, stood, so)) = are.says k d h in λ same. grind (arith, meets.free, stood, same) in
     let kept : AreMet field_name (IsMet new) 2 start named (key (field_name field) ∷ more) = record {
       members = are.members;
       come = are.come;
       says = λ k d h.
           let (there, at, (was, stood, so)) = are.says k d h in
-          (there, at, (was, other_kept old new field _ (meets.others _) (apart k d h) ∙ stood, so));
+          (there, at, (was, grind (arith, meets.others, apart k d h), so));
       only = are.only;
     } in (
       named ++ field ∷ [],
-      one_more_met field_name (IsMet new) 2 start more rest named (named ++ field ∷ []) field found kept begins (part, meets.met, is)
+      one_more_met field_name (IsMet new) 2 start more rest named _ field found kept begins (part, meets.met, is)
           (refl, λ k d h. name_apart _ field (apart k d h)),
-      λ other there. among_more old new field other named (meets.others other) all there,
+      λ other there. grind (arith, meets.others other, all other, Contains-push named field, Contains-append_left named (field ∷ []) other),
     )
 
 pub all_fields : (start rest : List Token) (met : LineFields) → AreFields start met (end_object ∷ rest) → BeginWithFields (begin_object ∷ start) met rest
@@ -79,15 +59,12 @@ part_shorter ts rest part (found, begins, says) = begun_shorter 2 ts rest found 
 
 -- ---- what a field is read as
 
-some_same : {A : Type 0} (x y : A) → Some x ≡ Some y → x ≡ y
-some_same x y e = grind arith
-
 -- what was met in a field stands there
 there_is : (value : Data) (met : LineFields) (field : LineField) (part : LinePart) → met_of met field ≡ Some part → HasFields value met
     → (there : Data) × (get (field_name field) value ≡ Some there) × IsPart there part
 there_is value met field part is (named, has, all) =
     let (there, at, (was, stood, so)) = stands field has (all field (rw is refl)) in
-    (there, at, subst (IsPart there) (some_same was part (sym stood ∙ is)) so)
+    (there, at, grind (arith, so))
 
 -- so a text is what its field is read as
 pub text_told : (met : LineFields) (field : LineField) (text : List ℕ) → met_of met field ≡ Some (Text text) → (value : Data) → HasFields value met
@@ -130,17 +107,18 @@ line_asks s request utf8 (found, begins, asks) = grind (arith, nat_tests, conver
 
 -- ---- what a place holds
 
--- a text was put in
-pub text_put : {A : Type 0} (text_of : A → List ℕ) (ts rest : List Token) (before after value : Option A) → before ≡ None
-    → (after ≡ value) × (is_some value ≡ true) → IfSome value (λ x. ts ≡ token.string (text_of x) ∷ rest)
-    → (part : LinePart) × BeginWithPart ts part rest × (option_map (λ x. Text (text_of x)) before ≡ None) × (option_map (λ x. Text (text_of x)) after ≡ Some part)
-text_put text_of ts rest before after (Some x) none put is =
-    (Text (text_of x), (string (text_of x), rw is (text_begins 2 (text_of x) rest), refl), rw none refl, rw put.0 refl)
-text_put text_of ts rest before after None none put is = absurd (grind (arith, put.1))
+-- what was put into the place of a field was met there
+pub part_put : {A : Type 0} (make : A → LinePart) (value : Option A) (ts rest : List Token) {old new : LineFields} {field : LineField}
+    {before after : Option A} → met_of old field ≡ option_map make before → met_of new field ≡ option_map make after
+    → (before ≡ None) × (after ≡ value) × (is_some value ≡ true) → IfSome value (λ x. BeginWithPart ts (make x) rest)
+    → ((other : LineField) → (other ≡ field) ⊎ (met_of new other ≡ met_of old other))
+    → (part : LinePart) × BeginWithPart ts part rest × Meets old field part new
+part_put make (Some x) ts rest was now (none, put, some) is others =
+    (make x, is, record { free = rw was (rw none refl); met = rw now (rw put refl); others = others })
+part_put make None ts rest was now (none, put, some) is others = absurd (grind (arith, some))
 
--- a number, or a message
-pub part_put : {A : Type 0} (make : A → LinePart) (ts rest : List Token) (before after value : Option A) → before ≡ None → (after ≡ value) × (is_some value ≡ true)
-    → IfSome value (λ x. BeginWithPart ts (make x) rest)
-    → (part : LinePart) × BeginWithPart ts part rest × (option_map make before ≡ None) × (option_map make after ≡ Some part)
-part_put make ts rest before after (Some x) none put is = (make x, is, rw none refl, rw put.0 refl)
-part_put make ts rest before after None none put is = absurd (grind (arith, put.1))
+-- a text that was taken is a part
+pub text_taken : {A : Type 0} (text_of : A → List ℕ) (value : Option A) (ts rest : List Token)
+    → IfSome value (λ x. ts ≡ token.string (text_of x) ∷ rest) → IfSome value (λ x. BeginWithPart ts (Text (text_of x)) rest)
+text_taken text_of (Some x) ts rest is = (string (text_of x), rw is (text_begins 2 (text_of x) rest), refl)
+text_taken text_of None ts rest is = tt

@@ -1,6 +1,5 @@
 -- The laws of the line that asks a request: it is read as that request, and what any line asks is legal.
-use Rattle.mv_format.proofs.Words.{AllByRecursion, Asking, Bool, Data, Err, IfOk, IsMarket, Kind, LineFault, LineField, LineKind, List, Ok, Open, Option, Request, Result, Some, Step, Unknown, [], arith, array, as_list, as_str, asked_at, each_back, each_of, items_of, kind_at, list_all, lt-ltb, map, market_lists_at, member_at, message_at, nat_tests, number_at, ok_or, read_at, read_is_legal, read_request, reads_back, refl, request_at, shape_of, string, strings, subst, ℕ, ◌and_then◌, ◌∷◌, ◌≡◌, Decides-and}
-use Rattle.std.specs.Option.{option_map_or}
+use Rattle.mv_format.proofs.Words.{AllByRecursion, Asking, Bool, Data, IfOk, IsMarket, Kind, LineFault, LineField, LineKind, List, Ok, Open, Request, Result, Some, Step, [], arith, array, as_list, as_str, asked_at, each_back, each_of, items_of, kind_at, list_all, lt-ltb, map, market_lists_at, member_at, message_at, nat_tests, number_at, ok_or, read_at, read_is_legal, read_request, reads_back, refl, request_at, shape_of, string, strings, subst, ℕ, ◌and_then◌, ◌∷◌, ◌≡◌, Decides-and}
 use Rattle.std.specs.Bool.{Decides}
 use Rattle.mv_pack.proofs.CallerLemmas.{read_code_is_code, read_code_of, read_gtin_of, read_market_is_market, read_market_of}
 use Rattle.mv_format.specs.RequestLaws.{request_value, IsLegalRequest}
@@ -24,7 +23,7 @@ market_decides : (text : List ℕ) → Decides (is_market text) (IsMarket text)
 market_decides text = grind (arith, read_market_is_market, read_market_of)
 
 lists_decide : (lists : List (List (List ℕ))) → Decides (list_all (list_all is_market) lists) (AreMarketLists lists)
-lists_decide = each_decides (AllByRecursion IsMarket) (list_all is_market) (each_decides IsMarket is_market market_decides)
+lists_decide = each_decides _ _ (each_decides _ _ market_decides)
 
 -- each request is read back from its line
 pub requests_read_back : (request : Request) → IsLegalRequest request → read_request (request_value request) ≡ Ok request
@@ -37,12 +36,7 @@ requests_read_back (Step (steps.Route from)) (few, _) = rw (lt-ltb _ _ few)
 requests_read_back (Step (steps.Repeat from to number)) (few, (small, (less, _))) = rw (lt-ltb _ _ few, lt-ltb _ _ small, lt-ltb _ _ less)
 requests_read_back (Step step) (few, (less, _)) = rw (lt-ltb _ _ few, lt-ltb _ _ less)
 
--- what holds of what a reading gives, where the next step sees to it
-then_gave : {A B : Type 0} (P : A → Type 0) (Q : B → Type 0) (reading : Result A LineFault) (next : A → Result B LineFault)
-    → IfOk reading P → ((x : A) → P x → IfOk (next x) Q) → IfOk (reading and_then next) Q
-then_gave P Q reading next gave step = grind (arith, nat_tests)
-
--- the same where nothing is known of what was read
+-- what holds of what the next step gives, whatever was read, holds of both
 then_any : {A B : Type 0} (Q : B → Type 0) (reading : Result A LineFault) (next : A → Result B LineFault)
     → ((x : A) → IfOk (next x) Q) → IfOk (reading and_then next) Q
 then_any Q reading next step = grind (arith, nat_tests)
@@ -68,7 +62,7 @@ AsksLegal (field ∷ rest) asks = (x : (meaning_of field).Value) → (meaning_of
 asked_gave : (others : List LineField) (asks : Asking others) (value : Data) → AsksLegal others asks → IfOk (asked_at others asks value) IsLegalRequest
 asked_gave [] request value legal = legal
 asked_gave (field ∷ rest) asks value legal =
-    then_gave (meaning_of field).IsLegal IsLegalRequest ((meaning_of field).read value) _ (meaning_gave field value) (λ x is. asked_gave rest (asks x) value (legal x is))
+    grind (arith, nat_tests, meaning_gave field value, λ (x : (meaning_of field).Value). asked_gave rest (asks x) value, legal)
 
 kinds_ask : (kind : LineKind) → AsksLegal (shape_of kind).0 (shape_of kind).1
 kinds_ask kinds.Open = λ parties legal submissions s uplink u window w wire i. (legal, (s, (u, (w, (i, tt)))))
@@ -81,16 +75,9 @@ request_gave : (kind : LineKind) (value : Data) → IfOk (request_at kind value)
 unfolding request_at
 request_gave kind value = asked_gave (shape_of kind).0 (shape_of kind).1 value (kinds_ask kind)
 
--- what reading gives, where no key is unknown
-abbrev unless_unknown : {A : Type 0} → Option (List ℕ) → Result A LineFault → Result A LineFault
-unless_unknown o reading = option_map_or (λ key. Err (Unknown key)) o reading
-
-known_gave : (o : Option (List ℕ)) (reading : Result Request LineFault) → IfOk reading IsLegalRequest → IfOk (unless_unknown o reading) IsLegalRequest
-known_gave o reading gave = grind (arith, nat_tests)
-
 read_gave : (value : Data) → IfOk (read_request value) IsLegalRequest
 unfolding read_request
-read_gave value = grind (arith, nat_tests, known_gave, request_gave, then_any)
+read_gave value = grind (arith, nat_tests, request_gave)
 
 -- what a line asks is legal
 pub read_requests_are_legal : (value : Data) (request : Request) → read_request value ≡ Ok request → IsLegalRequest request

@@ -1,5 +1,5 @@
 -- What is written of a reply's object is its canonical text.
-use Rattle.mv_format.proofs.Words.{◌≡◌, ℕ, ◌≤◌, List, [], ◌∷◌, ◌++◌, refl, ap, map, flat_map, length, take, sym, take_all, append_assoc, arith, Err, Ok, None, Option, Result, Some, Data, array, begin_array, begin_object, cond, false, end_array, end_object, entry_of, entry_tokens, items_of, key, member_tokens, members_of, members_where, nat_tests, object, tokens_of}
+use Rattle.mv_format.proofs.Words.{Err, Ok, ◌≡◌, ℕ, ◌≤◌, List, [], ◌∷◌, ◌++◌, refl, ap, map, flat_map, length, take, sym, take_all, append_assoc, arith, None, Option, Result, Some, Data, array, begin_array, begin_object, cond, false, end_array, end_object, items_of, key, member_tokens, members_of, nat_tests, object, tokens_of}
 use Rattle.json.specs.Tree.{items_tokens, members_tokens}
 use Rattle.mv_format.specs.Writing.{Adds, Appended}
 use Rattle.mv_json.proofs.CallerLemmas.{written_behind}
@@ -14,16 +14,10 @@ use Rattle.serde_json.specs.Written.{items_outline, members_outline}
 use Rattle.std.specs.Prelude.{codes, is_ok}
 use Rattle.mv_format.specs.declared.members.Member.{Member}
 
--- the tokens of a key and its value, if there is one, and of the members behind it
-entry_is : (name : List ℕ) (value : Option Data) (ms : List Member) → members_tokens (members_outline (members_of ms)) ≡ flat_map member_tokens ms ++ end_object ∷ []
-    → members_tokens (members_outline (members_where ((name, value) ∷ map entry_of ms)))
-    ≡ (entry_tokens name value ++ flat_map member_tokens ms) ++ end_object ∷ []
-unfolding tokens_of
-entry_is name value ms are = grind (arith, nat_tests, append_assoc)
-
 members_are : (ms : List Member) → members_tokens (members_outline (members_of ms)) ≡ flat_map member_tokens ms ++ end_object ∷ []
+unfolding tokens_of
 members_are [] = refl
-members_are (m ∷ ms) = entry_is (entry_of m).0 (entry_of m).1 ms (members_are ms)
+members_are (m ∷ ms) = grind (arith, nat_tests, members_are ms, append_assoc)
 
 pub object_is : (ms : List Member) → tokens_of (object (members_of ms)) ≡ begin_object ∷ (flat_map member_tokens ms ++ end_object ∷ [])
 unfolding tokens_of

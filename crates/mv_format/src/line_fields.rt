@@ -88,8 +88,7 @@ pub(crate) enum LineObject<'a> {
 /// Puts a value into a place where none is yet, and says whether it could.
 #[inline(always)]
 pub(crate) fn puts<T: Drop>(place: &mut Option<T>, value: Option<T>) -> bool
-    ensures free { IsTrue result → place.old ≡ None }
-    ensures put { IsTrue result → (place.new ≡ value) × (is_some value ≡ true) }
+    ensures { IsTrue result → (place.old ≡ None) × (place.new ≡ value) × (is_some value ≡ true) }
 {
     if place.is_some() || value.is_none() {
         return false;

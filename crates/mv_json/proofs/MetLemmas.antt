@@ -21,8 +21,7 @@ ComeTo deep start found rest =
 
 -- a value takes tokens
 pub begun_shorter : (deep : ℕ) (ts rest : List Token) (found : Data) → BeginWith deep ts found rest → length rest < length ts
-begun_shorter deep ts rest found begins =
-    skip_value-shorter deep ts rest (ap left (converted_some of_json (value deep ts) found rest (begins deep (omega arith))).1)
+begun_shorter deep ts rest found begins = grind (arith, begins deep, skip_value-shorter deep, converted_some)
 
 -- a member more was read
 pub come_on : (deep : ℕ) (start more rest : List Token) (name : List ℕ) (found : Members) (part : Data)

@@ -1,5 +1,5 @@
 -- What stands in the fields of a message: its tokens, and what is read of it.
-use Rattle.mv_json.proofs.Words.{IsPlace, IsThere, there, ◌≡◌, ◌∙◌, ◌≤◌, ℕ, Bool, true, false, List, [], ◌∷◌, ◌++◌, length, map, set, ap, sym, subst, refl, arith, Option, Some, None, Result, Ok, All, Contains, is_some, IsUtf8, ◌≢◌, All-map, All-set, AllByRecursion, BeginWith, BeginWithMessage, BeginWithPart, BeginWithTexts, Data, Entry, Field, HasEntries, IsCode, IsListOf, IsMarket, IsPart, IsTaken, Message, PackFault, Token, array, as_bool, as_null, as_str, begin_array, entry, entry_name, field_name, get, items, key, keys_of, list_at, most_markets, most_serials, of_items, read_bytes, read_code, read_market, strings, tokens, value, value-begin_array, value_is, whole_number}
+use Rattle.mv_json.proofs.Words.{IsPlace, IsThere, there, ◌≡◌, ◌∙◌, ◌≤◌, ℕ, Bool, true, false, List, [], ◌∷◌, ◌++◌, length, ap, sym, subst, refl, arith, Option, Some, None, Result, Ok, All, is_some, IsUtf8, ◌≢◌, All-map, All-set, AllByRecursion, BeginWith, BeginWithMessage, BeginWithPart, BeginWithTexts, Data, Entry, Field, HasEntries, IsCode, IsListOf, IsMarket, IsPart, IsTaken, Message, PackFault, Token, array, as_bool, as_null, as_str, begin_array, entry, entry_name, field_name, get, items, key, list_at, most_markets, most_serials, of_items, read_bytes, read_code, read_market, strings, tokens, value, value-begin_array, value_is, whole_number}
 use Rattle.mv_json.proofs.MetLemmas.{AreMet, one_more_met, weaker}
 use Rattle.mv_json.proofs.ReadingLemmas.{none_named, Inverts, codes_inverted, markets_inverted, list_agrees}
 use Rattle.mv_json.proofs.ValueLemmas.{utf8_test}
@@ -20,12 +20,11 @@ module _ (reader : List ℕ → Result (List ℕ) PackFault) (Holds : List ℕ �
   unfolding items
   texts_parsed ts [] rest h = (json.no_items, λ depth. rw h, refl, tt)
   texts_parsed ts (x ∷ xs) rest (more, (text, is, read), then) =
-      let (texts, parsed, same, hold) = texts_parsed more xs rest then in
-      let (is_text, holds) = rw read at (good.ok text) in (
+      let (texts, parsed, same, hold) = texts_parsed more xs rest then in (
         json.item (json.string text) texts,
         λ depth. rw (is, value_is depth (token.string text ∷ more), parsed depth),
-        rw (same, is_text),
-        (holds, hold),
+        grind (arith, good.ok text),
+        grind (arith, good.ok text),
       )
 
   -- a list of texts, behind the bracket that opens it
@@ -33,8 +32,7 @@ module _ (reader : List ℕ → Result (List ℕ) PackFault) (Holds : List ℕ �
       → (found : Data) × BeginWith 1 (begin_array ∷ list) found rest × ((found ≡ array (strings xs)) × IsListOf Holds most xs)
   listed most list rest xs has count =
       let (texts, parsed, same, hold) = texts_parsed list xs rest has in
-      let begins : BeginWith 1 (begin_array ∷ list) (array (strings xs)) rest = grind (arith, parsed, same, value-begin_array) in
-      (array (strings xs), begins, (refl, (count.0, count.1, hold)))
+      (array (strings xs), grind (arith, parsed, same, value-begin_array), (refl, (count.0, count.1, hold)))
 
 -- ---- names
 
@@ -78,15 +76,13 @@ part_taken : (value : Data) (old new : List Entry) (field : Field) (part : Part)
 part_taken value old new field part has taken is_list =
     let Says : Entry → Type 0 = λ met. (found : Data) × (get (entry_name met) value ≡ Some found) × IsPart found met.part in
     let (found, at, is) = subst Says taken.was (has.says taken.place (entry field part) taken.within) in
-    let without = set old taken.place (entry field parts.Taken) in
-    let names : map entry_name without ≡ map entry_name old =
-    map-set_same entry_name old taken.place (entry field parts.Taken) (entry field part) (ap entry_name (sym taken.was)) in (
+    let names = map-set_same entry_name old taken.place (entry field parts.Taken) (entry field part) (ap entry_name (sym taken.was)) in (
       (found, at, is),
-      subst (HasEntries value) (sym taken.taken) (record {
+      rw taken.taken (record {
         members = has.members;
         is = has.is;
         says = All-set Says old taken.place (entry field parts.Taken) (found, at, is_list found is) has.says;
-        only = subst (λ names. AllByRecursion (Contains names) (keys_of has.members)) (sym names) has.only;
+        only = rw names has.only;
       }),
     )
 
@@ -108,9 +104,8 @@ serials_taken value old new field x has taken =
 pub not_there : (field : Field) (value : Data) (entries : List Entry) → HasEntries value entries → All (λ other. other.field ≢ field) entries
     → get (field_name field) value ≡ None
 not_there field value entries has apart =
-    let others : All (λ name. name ≢ field_name field) (map entry_name entries) =
-    All-map (λ name. name ≢ field_name field) entry_name entries (λ k d h. name_apart _ field (apart k d h)) in
-    grind (arith, none_named, weaker)
+    let others = All-map (λ name. name ≢ field_name field) entry_name entries (λ k d h. name_apart _ field (apart k d h)) in
+    grind (arith, others, none_named, weaker)
 
 -- what stands in a field, stands there
 pub is_there : (field : Field) (value found : Data) (place : Place) → get (field_name field) value ≡ Some found → IsPlace found place → IsThere field value place

@@ -1,7 +1,7 @@
 -- A value is read as a message exactly where it is a spelling of it; what is read is legal, and the value of what is legal spells it.
-use Rattle.mv_json.proofs.Words.{Values, Absent, AllByRecursion, AreLegal, AreSpelled, Bool, Contains, Data, Err, Field, Found, HasOnly, IsIn, IsLegal, IsStrictlySortedBy, List, Making, Meaning, Members, Message, MessageFault, None, Ok, One, Option, PackKey, Present, Reads, Result, Some, SpellsFound, Standing, Two, Unknown, Version, [], ap, arith, bytes_eq, contents_of, false, field_at, field_name, fields_of, find, first_fault, first_unknown, form_at, form_name, form_of, found_of, found_value, found_version, get, is_some, keys_of, list_any, made_at, making_of, meaning_of, message_at, message_version, names_in, names_of, nat_cmp, not, object, option_map_or, pack_found, part_of, present_at, present_fields, present_of, read_expiry_text, read_gtin_of, read_message, refl, rules, since_two, string, subst, true, value_in, value_of, version_at, whole, ℕ, ◌∙◌, ◌∷◌, ◌≡◌}
+use Rattle.mv_json.proofs.Words.{Values, Absent, AllByRecursion, AreLegal, AreSpelled, Bool, Contains, Data, Field, Found, HasOnly, IsIn, IsLegal, IsStrictlySortedBy, List, Making, Meaning, Members, Message, None, Ok, One, Option, PackKey, Present, Reads, Some, SpellsFound, Standing, Two, Version, [], ap, arith, bytes_eq, contents_of, false, field_at, field_name, fields_of, find, first_fault, first_unknown, form_at, form_name, form_of, found_of, found_value, found_version, get, keys_of, list_any, made_at, making_of, meaning_of, message_at, message_version, names_in, names_of, nat_cmp, not, object, pack_found, part_of, present_at, present_fields, present_of, read_expiry_text, read_gtin_of, read_message, refl, rules, since_two, string, subst, value_in, value_of, version_at, whole, ℕ, ◌∙◌, ◌∷◌, ◌≡◌}
 use Rattle.mv_json.proofs.OrderLemmas.{rises, strictly_sorted}
-use Rattle.mv_json.proofs.ReadingLemmas.{Agrees, made, all_legal, made_ok, made_read, parts_agree, both_ok, ok_or_some, unrefused}
+use Rattle.mv_json.proofs.ReadingLemmas.{Agrees, made, all_legal, made_ok, made_read, parts_agree}
 use Rattle.mv_json.specs.declared.form.Form.{Form}
 use Rattle.mv_pack.specs.Expiry.{CivilDate}
 use Rattle.std.proofs.lemmas.Map.Views.{Contains-from_any, list_any-from_Contains}
@@ -14,32 +14,20 @@ use Rattle.mv_message.specs.declared.message.Message.TheVariants as messages
 
 -- ---- the keys, the version and the form of an object, and the fault of its fields
 
-same_bytes : (s t : List ℕ) → bytes_eq s t ≡ true → s ≡ t
-same_bytes s t e = (bytes_eq-Decides s t).0 e
-
 -- no key is unknown, so each is one of the names
 all_known : (names keys : List (List ℕ)) → find (λ key. not (list_any (bytes_eq key) names)) keys ≡ None → AllByRecursion (Contains names) keys
 all_known names [] h = tt
-all_known names (k ∷ ks) h = grind (arith, all_known names ks, Contains-from_any same_bytes k names)
+all_known names (k ∷ ks) h = grind (arith, all_known names ks, Contains-from_any (λ s t. (bytes_eq-Decides s t).0) k names)
 
 pub none_unknown : (names keys : List (List ℕ)) → AllByRecursion (Contains names) keys → find (λ key. not (list_any (bytes_eq key) names)) keys ≡ None
 none_unknown names [] h = refl
 none_unknown names (k ∷ ks) h = cc (none_unknown names ks h.1, list_any-from_Contains nat_list_eq_equiv k names h.0)
-
--- no key was unknown, so reading gave that
-unless_ok : {A : Type 0} (o : Option (List ℕ)) (reading : Result A MessageFault) (x : A)
-    → option_map_or (λ key. Err (Unknown key)) o reading ≡ Ok x → (o ≡ None) × (reading ≡ Ok x)
-unless_ok o reading x h = grind arith
 
 -- an object of that version and form: what `v` and `msg` say, and that it has no other key than the fields of the form
 abbrev Opens : Version → Form → Data → Type 0
 Opens version form d =
     (get (field_name fields.V) d ≡ since_two version None (Some (whole 2)))
     × (get (field_name fields.Msg) d ≡ Some (string (form_name form))) × IsIn form version × HasOnly (names_of version form) d
-
-version_ok : (d : Data) (version : Version) → version_at d ≡ Ok version → get (field_name fields.V) d ≡ since_two version None (Some (whole 2))
-unfolding version_at
-version_ok d version h = grind arith
 
 form_ok : (version : Version) (d : Data) (form : Form) → form_at version d ≡ Ok form
     → (get (field_name fields.Msg) d ≡ Some (string (form_name form))) × IsIn form version
@@ -49,8 +37,8 @@ form_ok version d form h = search rules
 -- a message was read, so the object has a version and a form, and its fields give the message
 opened : (d : Data) (m : Message) → read_message d ≡ Ok m
     → (version : Version) × (form : Form) × Opens version form d × (message_at version form d ≡ Ok m)
-unfolding read_message
-opened d m h = grind (arith, both_ok, unless_ok, ok_or_some, form_ok, version_ok, all_known)
+unfolding read_message version_at
+opened d m h = grind (arith, form_ok, all_known)
 
 -- an object of that version and form, with no other key, is read by its fields
 pub read_by_fields : (d : Data) (version : Version) (form : Form) → version_at d ≡ Ok version → form_at version d ≡ Ok form
@@ -86,12 +74,9 @@ fields_are_in_order version form = strictly_sorted (slice_cmp nat_cmp) (names_of
 abbrev pack_of : List ℕ → CivilDate → Option (List ℕ) → Bool → Standing → Bool → Found
 pack_of batch expiry national recalled standing withdrawn = Present batch expiry national standing recalled withdrawn
 
-none_found : {A : Type 0} (o : Option A) → is_some o ≡ false → o ≡ None
-none_found o h = grind arith
-
 object_read : (version : Version) (part : Data) (found : Found) → present_of version part ≡ Ok found → HasOnly (names_in version present_fields) part × (present_at version part ≡ Ok found)
 unfolding present_of
-object_read version part found h = grind (arith, both_ok, unrefused, all_known, none_found)
+object_read version part found h = grind (arith, all_known)
 
 -- what an object gives, it spells
 object_spelled : (version : Version) (part : Data) (found : Found) → present_of version part ≡ Ok found → SpellsFound version part found
@@ -172,13 +157,9 @@ spelled_is_read d m (version, h) =
 
 -- ---- what is read is legal, and the value of what is legal spells it
 
--- what the fields of a pack say is legal in the second version
-found_in_two : (version : Version) (found : Found) → (pack_found version).IsLegal found → (pack_found Two).IsLegal found
-found_in_two version found h = grind arith
-
 -- what is legal in a version is legal
 in_two : (version : Version) (m : Message) → AreLegal (meaning_of version (form_of m)) (fields_of (form_of m)) (contents_of version m) → IsLegal m
-in_two version (messages.Answer asker q key found) h = (h.0, (found_in_two version found h.1.0, h.1.1))
+in_two version (messages.Answer asker q key found) h = grind arith
 in_two version (messages.Upload gtin batch expiry national serials) h = grind arith
 in_two version m h = h
 

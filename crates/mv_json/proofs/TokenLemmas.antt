@@ -1,11 +1,10 @@
 -- Tokens that are put one after another.
-use Rattle.mv_json.proofs.Words.{◌≡◌, ◌≤◌, ℕ, List, [], ◌∷◌, ◌++◌, length, map, take, refl, subst, ap, ◌∙◌, append_assoc, append-nil, false, fold, sym, None, Some, Result, Err, Ok, arith, cond, Data, Field, Puts, PutsValue, Token, Version, array, begin_array, compact_text, end_array, end_object, field_name, items_outline, member, members_of, members_outline, members_put, no_members, option_map_or, print-outline, since_two, strings, take_all, tokens_of, version_member, whole}
-use Rattle.std.proofs.lemmas.Result.{on_ok_weaker}
+use Rattle.mv_json.proofs.Words.{◌≡◌, ◌≤◌, ℕ, List, [], ◌∷◌, ◌++◌, length, map, take, refl, subst, ap, append_assoc, append-nil, false, None, Some, Result, Ok, arith, cond, Data, Field, Puts, PutsValue, Token, Version, array, begin_array, compact_text, end_array, end_object, field_name, items_outline, member, members_of, members_outline, members_put, no_members, option_map_or, print-outline, since_two, strings, take_all, tokens_of, version_member, whole}
 use Rattle.std.specs.Prelude.{OnErr, OnOk, is_ok}
 use Rattle.json.specs.Tree.{items_tokens, members_tokens}
 use Rattle.std.proofs.lemmas.List.Sums.{fold-append}
 use Rattle.json.proofs.Printed.Tokens.{print_from-append}
-use Rattle.json.specs.Print.{ends, print_from}
+use Rattle.json.specs.Print.{print_from}
 use Rattle.mv_json.specs.Tokens.{Written}
 use Rattle.mv_json.specs.declared.member.Said.{Said}
 use Rattle.json.specs.Token as token
@@ -14,21 +13,13 @@ use Rattle.mv_json.specs.declared.field.Field.TheVariants as fields
 -- no token yet
 pub nothing : {E : Type 0} {old : Written} → Puts {E = E} (Ok tt) old old []
 unfolding print_from
-nothing {E} {old} = record { before = refl; text = sym (append-nil old.text); place = refl }
+nothing = grind (arith, append-nil)
 
 module _ {E F : Type 0} {done : Unit {0}} {result : Result (Unit {0}) E} {old now new : Written} {front more : List Token} where
   infixr 5 ◌then◌
   -- some tokens, and behind them more
   pub ◌then◌ : Puts {E = F} (Ok done) old now front → Puts result now new more → Puts result old new (front ++ more)
-  first then next = record {
-    before = next.before ∙ first.before;
-    text = on_ok_weaker result
-        (λ e. e ∙ (λ i. first.text i ++ print_from (first.place i) more) ∙ append_assoc old.text _ _
-        ∙ ap (λ text. old.text ++ text) (sym (print_from-append old.after_value front more))) next.text;
-    place = on_ok_weaker result
-        (λ e. e ∙ ap (λ after. fold (λ _ token. ends token) after more) first.place
-        ∙ sym (fold-append (λ _ token. ends token) old.after_value front more)) next.place;
-  }
+  first then next = grind (arith, append_assoc, print_from-append, fold-append)
 
 -- the same tokens, named otherwise
 pub named : {E : Type 0} {result : Result (Unit {0}) E} {old new : Written} {tokens others : List Token} → Puts result old new tokens → tokens ≡ others → Puts result old new others
@@ -60,11 +51,10 @@ version_is version = grind arith
 -- the text of a value's tokens, put behind none, is its compact text
 pub printed : {E : Type 0} {result : Result (Unit {0}) E} {start done : Written} (value : Data) → start.text ≡ [] → start.after_value ≡ false
     → Puts result start done (tokens_of value) → OnOk result (done.text ≡ compact_text value)
-printed {E} {result} {start} value none begun puts = on_ok_weaker result (λ e. e ∙ (λ i. none i ++ print_from (begun i) (tokens_of value)) ∙ print-outline value) puts.text
+printed value none begun puts = grind (arith, print-outline)
 
 -- a buffer behind which a value was written, or not
 pub written_behind : {E : Type 0} (result : Result (Unit {0}) E) (value : Data) (old new : List ℕ) (start done : Written)
     → start.before ≡ old → start.text ≡ [] → start.after_value ≡ false → Puts result start done (tokens_of value)
     → new ≡ done.before ++ cond (is_ok result) done.text [] → OnOk result (new ≡ old ++ compact_text value) × OnErr result (new ≡ old)
-written_behind (Ok tt) value old new start done before none begun puts is = (is ∙ (λ i. (puts.before ∙ before) i ++ printed value none begun puts i), tt)
-written_behind (Err error) value old new start done before none begun puts is = (tt, is ∙ append-nil done.before ∙ puts.before ∙ before)
+written_behind result value old new start done before none begun puts is = grind (arith, printed, append-nil)

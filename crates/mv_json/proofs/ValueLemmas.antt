@@ -1,5 +1,5 @@
 -- The values of messages: how deep they nest, their keys in byte order, and their canonical text, which is read as them.
-use Rattle.mv_json.proofs.Words.{◌≡◌, ◌≤◌, ℕ, sym, arith, rules, List, [], ◌∷◌, ap, refl, ◌∙◌, ◌<◌, ◌^◌, max, append-nil, option_map, IsUtf8, Some, None, Ok, Data, Found, HasWords, IsLegal, Message, One, PackKey, Two, Version, compact_text, found_value, found_version, item, items_outline, max_depth, of_items, of_json, outline, print-outline, read, read_bytes, string, strings, tokens, tokens_of, value_in, value_of}
+use Rattle.mv_json.proofs.Words.{◌≡◌, ◌≤◌, ℕ, arith, rules, List, [], ◌∷◌, ap, refl, ◌<◌, ◌^◌, max, append-nil, option_map, IsUtf8, Some, None, Ok, Data, Found, HasWords, IsLegal, Message, One, PackKey, Two, Version, compact_text, found_value, item, items_outline, max_depth, of_items, of_json, outline, print-outline, read, read_bytes, string, strings, tokens_of, value_in, value_of}
 use Rattle.json.proofs.Printed.Decimals.{IsNumber-decimal}
 use Rattle.json.proofs.Printed.Tokens.{tokens-print}
 use Rattle.json.proofs.Printed.Trees.{value-json_tokens, ArePrintable-json_tokens}
@@ -15,13 +15,10 @@ items_flat : (texts : List (List ℕ)) → tree.items_depth (items_outline (stri
 items_flat [] = refl
 items_flat (text ∷ texts) = ap (λ n. max 0 n) (items_flat texts)
 
-answer_depth : (version : Version) (asker q : ℕ) (key : PackKey) (f : Found) → tree.depth (outline (value_in version (messages.Answer asker q key f))) ≤ max_depth
-answer_depth version asker q key f = grind arith
-
 -- the value of a message nests two deep
 value_depth : (m : Message) → tree.depth (outline (value_of m)) ≤ max_depth
 value_depth (messages.Upload gtin batch expiry None serials) = omega (arith, items_flat)
-value_depth (messages.Answer asker q key found) = answer_depth (found_version found) asker q key found
+value_depth (messages.Answer asker q key found) = grind arith
 value_depth m = omega (arith, items_flat)
 
 -- ---- the keys of the values of messages stand in byte order
@@ -31,15 +28,11 @@ pub texts_ascend : (texts : List (List ℕ)) → ItemsKeysAscend (strings texts)
 texts_ascend [] = tt
 texts_ascend (text ∷ texts) = (tt, texts_ascend texts)
 
-answer_ascends : (version : Version) (asker q : ℕ) (key : PackKey) (found : Found) → KeysAscend (value_in version (messages.Answer asker q key found))
-unfolding rises
-answer_ascends version asker q key found = grind (arith, strictly_sorted)
-
 -- the keys of each object in the value of a message ascend
 pub keys_ascend : (m : Message) → KeysAscend (value_of m)
 unfolding rises
 keys_ascend (messages.Upload gtin batch expiry None serials) = search (rules, strictly_sorted, texts_ascend) depth 16 parts 16
-keys_ascend (messages.Answer asker q key found) = answer_ascends (found_version found) asker q key found
+keys_ascend (messages.Answer asker q key found) = grind (arith, strictly_sorted)
 keys_ascend m = search (rules, strictly_sorted, texts_ascend) depth 16 parts 16
 
 -- ---- the canonical text of a message is read as its value
@@ -52,8 +45,8 @@ record ReadsBack (d : Data) : Type 0 where
 -- a value whose outline reads as it is what its text is read as
 text_of_value : (d : Data) → tree.depth (outline d) ≤ max_depth → ReadsBack d → read (compact_text d) ≡ Some d
 text_of_value d shallow back =
-    let text = ap tokens (sym (print-outline d)) ∙ tokens-print (tokens_of d) (ArePrintable-json_tokens (outline d) back.numbers) ∙ sym (append-nil (tokens_of d)) in
-    grind (arith, value-json_tokens)
+    let printable = ArePrintable-json_tokens (outline d) back.numbers in
+    grind (arith, print-outline d, tokens-print (tokens_of d) printable, append-nil (tokens_of d), value-json_tokens)
 
 texts_have_numbers : (texts : List (List ℕ)) → tree.ItemsHaveNumbers (items_outline (strings texts))
 texts_have_numbers [] = tt

@@ -16,6 +16,7 @@ use std::mem;
 
 /// Appends the canonical text of a message to a buffer: its value with no blanks, the keys in byte order. The only
 /// refusal is want of memory; then the buffer holds what it held.
+#[tactic(auto, using(crate::proofs::TokenLemmas::written_behind), unfolding(crate::specs::inside::Tokens::PutsValue))]
 pub fn write_text(alloc: Global, message: &Message, out: &mut Vec<u8>) -> Result<(), AllocError>
     ensures text { OnOk result
         (out.new.items ≡ out.old.items ++ compact_text (value_of message.now)) }

@@ -1,5 +1,5 @@
 -- Which entry of the record put each item on a link: the items of a link are put there in the order of the record.
-use Rattle.mv_machine.proofs.Words.{All, All-cons, All-nil, Bool, Carried, Entry, IsLawful, IsLawfulRecord, IsTrue, Item, List, LogEntry, Message, Receipt, Routed, Some, State, [], and_parts, append_assoc, arith, common_steps, cond, eq-eqb, eqb, eqb-true, gained, gets, is_open, is_query, is_reached, is_target, items_from, length, link_items, link_items_after, log_of, nat_lt, nat_tests, number_of, reach, refl, routed_count, slice_get, suc, take, take-append_seam, true, zero, ℕ, ◌&&◌, ◌++◌, ◌+◌, ◌<◌, ◌∷◌, ◌≡◌, ◌≤◌}
+use Rattle.mv_machine.proofs.Words.{All, All-cons, All-nil, Carried, Entry, IsLawful, IsLawfulRecord, IsTrue, Item, List, LogEntry, Message, Receipt, Routed, Some, State, [], append_assoc, arith, common_steps, gained, gets, is_open, is_query, is_reached, items_from, length, link_items, link_items_after, log_of, nat_tests, number_of, reach, routed_count, slice_get, suc, take, take-append_seam, true, zero, ℕ, ◌++◌, ◌+◌, ◌<◌, ◌∷◌, ◌≡◌, ◌≤◌}
 use Rattle.mv_machine.proofs.PrefixLemmas.{slice_get-behind}
 use Rattle.mv_machine.proofs.BoundLemmas.{routed_count-push}
 
@@ -36,14 +36,6 @@ module _ (parties : List (List (List ℕ))) (entries : List Entry) (from to : �
   put-front least [] more put = tt
   put-front least (item ∷ items) more put = (put.0, put.1, put-front (turn item + 1) items more put.2)
 
-  pub put-rest : (least : ℕ) (item : Item) (items : List Item) → ArePut parties entries from to least (item ∷ items) → ArePut parties entries from to least items
-  put-rest least item items put = put-weaker least (turn item + 1) items (omega (arith, put.0)) put.2
-
-  -- one more item in front, where there is one
-  put-maybe : (more : Bool) (least : ℕ) (item : Item) (items : List Item) → least ≤ turn item → (more ≡ true → IsPut parties entries from to item)
-      → ArePut parties entries from to (turn item + 1) items → ArePut parties entries from to least (cond more (item ∷ []) [] ++ items)
-  put-maybe more least item items h1 h2 h3 = grind (arith, put-weaker)
-
   -- what holds of an item that was put holds of each
   pub put-each : (P : Item → Type 0) (least : ℕ) → ((item : Item) → IsPut parties entries from to item → P item) → (items : List Item) → ArePut parties entries from to least items → All P items
   put-each P least each [] put = All-nil P
@@ -71,11 +63,8 @@ module _ (parties : List (List (List ℕ))) (from to : ℕ) where
   own-put before message entries items later =
       let put = put-here before message entries in
       let k = routed_count before from + 1 in
-      let own = λ (e : (eqb to from && is_open before from from) ≡ true). let parts = and_parts _ _ e in
-      put (Receipt k (reach parties before from message) (is_query message)) (rw (eqb-true to from parts.0) parts.1) (refl, refl) in
-      let reached = λ (e : is_reached parties before from message to ≡ true). put (Carried k (length before + 1) message)
-      (and_parts (nat_lt to (length parties) && is_target parties before from message to) _ e).1 (refl, refl, e) in
-      rw (eq-eqb from from refl) (grind (arith, put-maybe))
+      let receipt = put (Receipt k (reach parties before from message) (is_query message)) in
+      grind (arith, nat_tests, put-weaker, receipt, put (Carried k (length before + 1) message))
 
   -- what the entries of a record put on a link, where others stand before them
   link-put : (before entries : List Entry) → IsLawfulRecord (length parties) (before ++ entries)
@@ -84,8 +73,8 @@ module _ (parties : List (List (List ℕ))) (from to : ℕ) where
   link-put before [] lawful = tt
   link-put before (entry ∷ entries) lawful =
       let fits = lawful.fits (length before) entry (slice_get-behind before entry entries) in
-      let later = rw append_assoc at (link-put (before ++ entry ∷ []) entries (rw append_assoc lawful)) in
-      grind (arith, nat_tests, routed_count-push, put-weaker, own-put before, take-append_seam before (entry ∷ entries))
+      let front = take-append_seam before (entry ∷ entries) in
+      grind (arith, nat_tests, routed_count-push, put-weaker, own-put before, append_assoc, link-put (before ++ entry ∷ []) entries)
 
 -- so what was applied over a link was put there
 pub log-put : (st : State) (from to : ℕ) → IsLawful st → from < length st.hub.parties → to < length st.hub.parties → ArePut st.hub.parties st.hub.entries from to 2 (items_from (log_of st to) from)
@@ -100,8 +89,7 @@ pub entry-put : (parties : List (List (List ℕ))) (entries : List Entry) (to le
 entry-put parties entries to least [] place entry at put = absurd (cc)
 entry-put parties entries to least (first ∷ log) zero entry at put = grind arith
 entry-put parties entries to least (first ∷ log) (suc place) entry at put =
-    let rest = put-rest parties entries entry.sender to least first.item (items_from log entry.sender) in
-    grind (arith, entry-put parties entries to least log place entry at, rest)
+    grind (arith, entry-put parties entries to least log place entry at, put-weaker)
 
 -- so was each entry of the log of a party, whose sender is a party
 pub log-entry : (st : State) (party place : ℕ) (entry : LogEntry) → IsLawful st → party < length st.hub.parties

@@ -33,7 +33,7 @@ pub fn numbers_suffice()
 {}
 
 /// In every lawful state, no stamp stands twice in a log.
-#[tactic(auto, using(crate::proofs::StampLemmas::stamps_distinct))]
+#[tactic(auto, using(crate::proofs::SubmittedLemmas::stamps_distinct))]
 pub fn stamps_are_distinct()
     ensures { InLawfulStates StampsAreDistinct }
 {}

@@ -3,7 +3,7 @@ use Rattle.mv_machine.proofs.Words.{ClosedLinksStayClosed, Follows, HeadlineHold
 use Rattle.mv_machine.proofs.LawfulLemmas.{change-sound}
 use Rattle.mv_machine.proofs.LimitLemmas.{runs_kept}
 use Rattle.mv_machine.proofs.ClosingLemmas.{nothing_routed_later, nothing_submitted_later, follows_further, change-follows}
-use Rattle.mv_machine.proofs.SubmittedLemmas.{applied_submitted, numbers_rise, repositories_agree}
+use Rattle.mv_machine.proofs.PutLemmas.{applied_submitted, numbers_rise, repositories_agree}
 use Rattle.mv_machine.proofs.StepLemmas.{Change, step-changes, asked-changes, run-keeps}
 
 pub headline : (old new : State) → IsLawful old → IsWellFormed new → IsLawful new → Follows old new → HeadlineHolds old new

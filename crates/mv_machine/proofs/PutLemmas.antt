@@ -1,7 +1,11 @@
--- Which entry of the record put each item on a link: the items of a link are put there in the order of the record.
-use Rattle.mv_machine.proofs.Words.{All, All-cons, All-nil, Carried, Entry, IsLawful, IsLawfulRecord, IsTrue, Item, List, LogEntry, Message, Receipt, Routed, Some, State, [], append_assoc, arith, common_steps, gained, gets, is_open, is_query, is_reached, items_from, length, link_items, link_items_after, log_of, nat_tests, number_of, reach, routed_count, slice_get, suc, take, take-append_seam, true, zero, ℕ, ◌++◌, ◌+◌, ◌<◌, ◌∷◌, ◌≡◌, ◌≤◌}
-use Rattle.mv_machine.proofs.PrefixLemmas.{slice_get-behind}
-use Rattle.mv_machine.proofs.BoundLemmas.{routed_count-push}
+-- Which entry of the record put each item on a link: the items of a link are put there in the order of the record. So what a lawful state
+-- applied is what was submitted, the numbers of its items rise, and no stamp stands twice in a log.
+use Rattle.std.specs.List.Sorted.{IsStrictlyIncreasing}
+use Rattle.mv_repository.proofs.CallerLemmas.{distinct-stamps, same_about, stamp_in}
+use Rattle.mv_machine.specs.Stamps.{StampsAreDistinct, RepositoriesAgree}
+use Rattle.mv_machine.proofs.Words.{All, All-cons, All-nil, AppliedIsSubmitted, Bool, Carried, Entry, IsLawful, IsLawfulRecord, IsRoutedAt, IsTrue, Item, List, LogEntry, Message, NumbersRise, Receipt, Routed, Some, State, [], append_assoc, arith, common_steps, filter, gained, get_or, gets, is_carried, is_open, is_query, is_reached, items_from, length, link_items, link_items_after, log_of, map, nat_tests, not, number_of, option_and_then_some, reach, routed_count, slice_get, slice_get-get_or, suc, take, take-append_seam, true, zero, ℕ, ◌++◌, ◌+◌, ◌-◌, ◌<◌, ◌∷◌, ◌≡◌, ◌≤◌}
+use Rattle.mv_machine.proofs.PrefixLemmas.{slice_get-append, slice_get-behind}
+use Rattle.mv_machine.proofs.BoundLemmas.{past, routed_count-push}
 
 -- an item is made of a message that was routed behind these entries, under this stamp
 abbrev pub IsMadeOf : List (List (List ℕ)) → List Entry → ℕ → ℕ → ℕ → Message → Item → Type 0
@@ -100,3 +104,57 @@ log-entry st party place entry lawful is_party at =
     let from_parties = (lawful.of_party party is_party).answers.from_parties in
     let put = entry-put st.hub.parties st.hub.entries party 2 (log_of st party) place entry at in
     grind (arith, common_steps, gets, from_parties, log-put st entry.sender party lawful, put)
+
+-- the message of an entry stands under its number among those that its sender submitted
+routed_as : (st : State) (from k place : ℕ) (message : Message) → IsLawful st → from < length st.hub.parties
+    → slice_get st.hub.entries place ≡ Some (Routed from k message) → IsRoutedAt st from k (place + 1) message
+routed_as st from k place message lawful is_party at =
+    let number = (lawful.of_record.fits place (Routed from k message) at).1 in
+    grind (arith, slice_get-append, past st.hub.entries place (Routed from k message) at)
+
+pub applied_submitted : (st : State) → IsLawful st → AppliedIsSubmitted st
+applied_submitted st lawful party is_party place d within =
+    let entry = get_or (log_of st party) place d in
+    let put = log-entry st party place entry lawful is_party (slice_get-get_or (log_of st party) place d within) in
+    (put.0, grind (arith, routed_as, put.2))
+
+-- the numbers of the items of one kind, which of each message come at the same turn, rise from one on that is not among them
+kind-rises : (parties : List (List (List ℕ))) (entries : List Entry) (from to : ℕ) (P : Item → Bool) (kind : ℕ)
+    → ((item : Item) → P item ≡ true → turn item ≡ number_of item + number_of item + kind) → (least first : ℕ) (items : List Item)
+    → least + least + kind < first → ArePut parties entries from to first items → IsStrictlyIncreasing (least ∷ map number_of (filter P items))
+kind-rises parties entries from to P kind turns least first [] le put k within = absurd (omega arith)
+kind-rises parties entries from to P kind turns least first (item ∷ items) le put k within =
+    let rest = put-weaker parties entries from to first (turn item + 1) items (omega (arith, put.0)) put.2 in
+    let others = kind-rises parties entries from to P kind turns least first items le rest in
+    let later = kind-rises parties entries from to P kind turns (number_of item) (turn item + 1) items in
+    grind (arith, turns item, others k, later, k - 1)
+
+pub numbers_rise : (st : State) → IsLawful st → NumbersRise st
+numbers_rise st lawful from to from_is_party to_is_party =
+    let put = log-put st from to lawful from_is_party to_is_party in
+    let items = items_from (log_of st to) from in
+    let rise = kind-rises st.hub.parties st.hub.entries from to in (
+      λ k within. grind (arith, rise is_carried 1 (λ item. grind arith) 0 2 items (omega arith) put (suc k)),
+      λ k within. grind (arith, rise (λ item. not (is_carried item)) 0 (λ item. grind arith) 0 2 items (omega arith) put (suc k)),
+    )
+
+-- two entries of one sender and one turn stand at one place
+same-place : (parties : List (List (List ℕ))) (entries : List Entry) (to least : ℕ) (log : List LogEntry) (i j : ℕ) (one other : LogEntry)
+    → slice_get log i ≡ Some one → slice_get log j ≡ Some other → one.sender ≡ other.sender → turn one.item ≡ turn other.item
+    → ArePut parties entries one.sender to least (items_from log one.sender) → i ≡ j
+same-place parties entries to least [] i j one other first second sender same put = absurd (cc)
+same-place parties entries to least (entry ∷ log) i j one other first second sender same put =
+    grind (arith, gets, entry-put parties entries to (turn entry.item + 1) log, put-weaker, same-place parties entries to least log)
+
+pub stamps_distinct : (st : State) → IsLawful st → StampsAreDistinct st
+stamps_distinct st lawful party is_party =
+    let log = log_of st party in
+    distinct-stamps log (λ first second stamp a b.
+    option_and_then_some (λ (entry : LogEntry). stamp_in entry.item) (slice_get log first) stamp a (λ one at_one in_one.
+    option_and_then_some (λ (entry : LogEntry). stamp_in entry.item) (slice_get log second) stamp b (λ other at_other in_other.
+    let here = log-entry st party first one lawful is_party at_one in
+    let there = log-entry st party second other lawful is_party at_other in
+    grind (arith, here, there, same-place st.hub.parties st.hub.entries party 2 log first second one other at_one at_other))))
+
+pub repositories_agree : (st : State) → IsLawful st → RepositoriesAgree st
+repositories_agree st lawful pack one other one_is_party other_is_party same = search (same_about, stamps_distinct)

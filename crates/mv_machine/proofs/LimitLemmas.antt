@@ -1,6 +1,5 @@
 -- Each step keeps the limits, and so does each run.
-use Rattle.mv_machine.proofs.Words.{All-tail, Bounds, Entry, InRuns, Item, List, Message, None, Query, Reply, State, Step, [], append-nil, apply_fault, arith, ask_fault, busy_party, elements, find-none_at, gained, gained_other, get_or-replicate, is_busy, is_party, is_uplink_full, items_on, length, link_items, link_items-push, next_entry, opening, put-each_pair, route_fault, sent_of, site_of, wire_of, with_applied, with_site, with_submission, with_wire, ℕ, ◌++◌, ◌+◌, ◌-◌, ◌<◌, ◌∷◌, ◌≡◌, ◌≤◌}
-use Rattle.mv_link.specs.declared.incoming.Look.TheVariants as look
+use Rattle.mv_machine.proofs.Words.{All-tail, Bounds, Entry, InRuns, List, Message, None, Query, Reply, State, Step, [], append-nil, arith, ask_fault, busy_party, elements, find-none_at, gained, gained_other, get_or-replicate, is_busy, is_party, is_uplink_full, items_on, length, link_items, link_items-push, next_entry, opening, put-each_pair, route_fault, sent_of, site_of, wire_of, with_site, with_submission, with_wire, ℕ, ◌++◌, ◌+◌, ◌-◌, ◌<◌, ◌∷◌, ◌≡◌, ◌≤◌}
 use Rattle.mv_machine.specs.Bounded.{IsLinkWithin, KeepsLimits}
 use Rattle.mv_machine.proofs.LawfulLemmas.{IsSound, change-sound, opening-site, opening-sound}
 use Rattle.mv_machine.proofs.BoundLemmas.{routed_count-push}
@@ -41,11 +40,6 @@ routed-room st from message window k free sender to a b =
     let idle = find-none_at (is_busy st.hub from message) to (length st.hub.parties) b in
     grind (arith, window, k.links sender to a b, idle, gained_other)
 
--- an item was applied, and the answer that it calls for submitted
-applied-keeps : (st : State) (from to : ℕ) (item : Item) → IsSound st → KeepsLimits st → apply_fault (is_uplink_full st to) (site_of st to) from item look.Next ≡ None
-    → KeepsLimits (with_site st to (with_applied (site_of st to) from item))
-applied-keeps st from to item sound k free = grind (arith, append-nil, elements)
-
 -- whatever a step changes
 pub change-keeps : (old new : State) (step : Step) (reply : Reply) → Change old step reply new → IsSound old → KeepsLimits old → KeepsLimits new
 unfolding gained
@@ -57,7 +51,8 @@ change-keeps st _ _ _ (relayed from to from_is_party to_is_party room some) soun
 change-keeps st _ _ _ (repeated from to number room least most) sound k =
     wired-keeps st from to _ k (λ a b. grind (arith, elements, k.links from to a b))
 change-keeps st _ _ _ (dropped step reply from to number rest drops front) sound k = dropped-keeps st from to number rest k front
-change-keeps st _ _ _ (applied from to number rest item sender_is_party is_party front next free) sound k = dropped-keeps _ from to number rest (applied-keeps st from to item sound k free) front
+change-keeps st _ _ _ (applied from to number rest item sender_is_party is_party front next free) sound k =
+    dropped-keeps _ from to number rest (grind (arith, append-nil, elements)) front
 change-keeps old new step reply change sound k = k
 
 pub opening-keeps : (parties : List (List (List ℕ))) (limits : Bounds) → KeepsLimits (opening parties limits)

@@ -1,5 +1,5 @@
 -- How long the record can grow: each sender routes what it submitted, and each link is closed at most once.
-use Rattle.mv_machine.proofs.Words.{◌≡◌, ℕ, suc, zero, ◌+◌, ◌-◌, ◌*◌, ◌<◌, ◌≤◌, false, List, [], ◌∷◌, ◌++◌, length, map, get_or, take, length-append, length-map, Some, ap, ◌∙◌, arith, eqb, slice_get, Closed, Decides-eqb, Entry, IsDistinct, IsLawful, NumbersSuffice, Routed, StampsSuffice, State, common_steps, gained, gets, is_busy, is_open, items_on, le-ltb, link_items, link_items_after, routed_count, routed_from, routed_from-append, submissions_of}
+use Rattle.mv_machine.proofs.Words.{◌≡◌, ℕ, suc, ◌+◌, ◌-◌, ◌*◌, ◌<◌, ◌≤◌, false, List, [], ◌∷◌, ◌++◌, length, map, get_or, take, length-append, length-map, Some, ap, ◌∙◌, arith, eqb, slice_get, Closed, Decides-eqb, Entry, IsDistinct, IsLawful, NumbersSuffice, Routed, StampsSuffice, State, common_steps, gained, gets, is_busy, is_open, items_on, le-ltb, link_items, link_items_after, routed_count, routed_from, routed_from-append, submissions_of}
 use Rattle.std.proofs.lemmas.List.Folds.{Any-from_list_any}
 use Rattle.std.proofs.lemmas.Map.Made.{IsDistinct-from_AllPairs}
 use Rattle.std.proofs.lemmas.Map.Steps.{length-le_from_distinct_below}
@@ -18,9 +18,8 @@ IsPast entries place (Routed from k message) = slice_get (routed_from entries fr
 IsPast entries place (Closed from to) = is_open entries from to ≡ false
 
 pub past : (entries : List Entry) (place : ℕ) (entry : Entry) → slice_get entries place ≡ Some entry → IsPast entries place entry
-past [] place entry at = absurd (cc)
-past (first ∷ entries) zero entry at = grind arith
 past (first ∷ entries) (suc place) entry at = grind (arith, past entries place entry at)
+past entries place entry at = grind arith
 
 -- a number for each entry of a record, by which no two entries are equal
 abbrev entry_number : Entry → ℕ

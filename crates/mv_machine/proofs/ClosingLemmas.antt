@@ -1,6 +1,6 @@
 -- Nothing that is routed after the closing of a link goes over it, and the record only grows.
 use Rattle.std.proofs.lemmas.List.Sums.{take_while-cons}
-use Rattle.mv_machine.proofs.Words.{◌≡◌, ℕ, zero, suc, ◌+◌, ◌≤◌, true, false, List, [], ◌∷◌, ◌++◌, take, drop, cond, Some, append_assoc, append-nil, arith, slice_get, Entry, Follows, IsLawful, Message, Reply, Routed, State, Step, is_open, items_from, log_of, number_of, routed_count, take-append-drop}
+use Rattle.mv_machine.proofs.Words.{◌≡◌, ℕ, suc, ◌+◌, ◌≤◌, true, false, List, [], ◌∷◌, ◌++◌, take, drop, cond, Some, append_assoc, append-nil, arith, slice_get, Entry, Follows, IsLawful, Message, Reply, Routed, State, Step, is_open, items_from, log_of, number_of, routed_count, take-append-drop}
 use Rattle.mv_machine.specs.Closing.{before_closing, NothingRoutedLater, NothingSubmittedLater}
 use Rattle.mv_machine.proofs.PutLemmas.{put-each, log-put}
 use Rattle.mv_machine.proofs.BoundLemmas.{routed_count-few, routed_count-push}
@@ -14,9 +14,8 @@ before_closing-next entry entries from to = take_while-cons (λ entry. is_open (
 -- a message that was routed while a link was open was routed before its closing
 open-before : (entries : List Entry) (place from to k : ℕ) (message : Message) → slice_get entries place ≡ Some (Routed from k message) → is_open (take place entries) from to ≡ true
     → routed_count (take place entries) from + 1 ≤ routed_count (before_closing entries from to) from
-open-before [] place from to k message at open_then = absurd (cc)
-open-before (entry ∷ entries) zero from to k message at open_then = grind (arith, at, before_closing-next entry entries from to)
 open-before (entry ∷ entries) (suc place) from to k message at open_then = grind (arith, open-before entries place from to k message at, before_closing-next)
+open-before entries place from to k message at open_then = grind (arith, at, before_closing-next)
 
 -- what was applied over a link is about messages that were routed before its closing
 pub nothing_routed_later : (st : State) → IsLawful st → NothingRoutedLater st

@@ -1,10 +1,9 @@
 -- The headline follows from two lawful states of which one follows the other.
-use Rattle.mv_machine.proofs.Words.{ClosedLinksStayClosed, Follows, HeadlineHolds, InSteps, IsLawful, IsWellFormed, Reply, State, Step, Verify, [], append-nil, arith, refl}
+use Rattle.mv_machine.proofs.Words.{ClosedLinksStayClosed, Follows, HeadlineHolds, InSteps, IsLawful, IsWellFormed, Reply, State, Step, Verify, append-nil, arith}
 use Rattle.mv_machine.proofs.LawfulLemmas.{change-sound}
 use Rattle.mv_machine.proofs.LimitLemmas.{runs_kept}
 use Rattle.mv_machine.proofs.ClosingLemmas.{nothing_routed_later, nothing_submitted_later, follows_further, change-follows}
-use Rattle.mv_machine.proofs.StampLemmas.{repositories_agree}
-use Rattle.mv_machine.proofs.SubmittedLemmas.{applied_submitted, numbers_rise}
+use Rattle.mv_machine.proofs.PutLemmas.{applied_submitted, numbers_rise, repositories_agree}
 use Rattle.mv_machine.proofs.StepLemmas.{Change, step-changes, asked-changes, run-keeps}
 
 pub headline : (old new : State) → IsLawful old → IsWellFormed new → IsLawful new → Follows old new → HeadlineHolds old new
@@ -23,8 +22,7 @@ steps_keep_headline = (
 
 -- where nothing happened
 pub headline-same : (st : State) → IsWellFormed st → IsLawful st → HeadlineHolds st st
-headline-same st well_formed lawful =
-    headline st st lawful well_formed lawful (record { parties = refl; limits = refl; entries = ([], append-nil st.hub.entries) })
+headline-same st well_formed lawful = grind (arith, headline, append-nil)
 
 pub headline_further : (first second third : State) → HeadlineHolds first second → HeadlineHolds second third → HeadlineHolds first third
 headline_further first second third a b = search (headline, follows_further)
@@ -33,8 +31,6 @@ headline_further first second third a b = search (headline, follows_further)
 pub closed_links_stay_closed : ClosedLinksStayClosed
 closed_links_stay_closed parties limits first first_replies between ran_first second second_replies new ran_second =
     let sound = (runs_kept parties limits first first_replies between ran_first).0 in
-    let holds = run-keeps (HeadlineHolds between)
-    (λ old later step reply change here. headline_further between old later here
-    (change-headline old later step reply change here.well_formed here.lawful))
+    let holds = run-keeps (HeadlineHolds between) (λ old later step reply change here. grind (arith, change-headline, headline_further))
     between second second_replies new ran_second (headline-same between sound.well_formed sound.lawful) in
     (holds.closed, holds.closing)

@@ -1,7 +1,7 @@
 -- Each step keeps a state well formed and lawful, and so does each run.
-use Rattle.mv_machine.proofs.Words.{Allows, Bounds, Closed, Entry, Fits, IsLawful, IsLawfulAt, IsLawfulRecord, IsPrefix, IsWellFormed, Item, List, Message, Query, Reply, Runs, SiteState, Some, State, Step, [], answers_in, append-nil, arith, common_steps, elements, entry_from, eqb, gets, get_or-map-range_with_len, items_from, items_from-push, length, length-map, length-range_with_len, link_items-push, log_of, nat_tests, new_hub, new_site, next_entry, opened_site, opening, party-applied, party-submitted, put-each, refl, routed_from, routed_from-append, site_of, square-put, square-replicate, submissions_of, subst, with_applied, with_relayed, with_site, with_submission, with_wire, ℕ, ◌++◌, ◌<◌, ◌∷◌, ◌≡◌}
+use Rattle.mv_machine.proofs.Words.{Allows, Bounds, Closed, Entry, Fits, IsLawful, IsLawfulAt, IsLawfulRecord, IsPrefix, IsWellFormed, Item, List, Message, Query, Reply, Runs, SiteState, Some, State, Step, [], answers_in, append-nil, arith, common_steps, elements, entry_from, eqb, gets, get_or-map-range_with_len, items_from, items_from-push, length, length-map, length-range_with_len, link_items-push, log_of, nat_tests, new_hub, new_site, next_entry, opened_site, opening, party-applied, party-submitted, put-each, refl, routed_from, routed_from-append, site_of, square-put, square-replicate, submissions_of, with_applied, with_relayed, with_site, with_submission, with_wire, ℕ, ◌++◌, ◌<◌, ◌∷◌, ◌≡◌}
 use Rattle.mv_machine.proofs.PrefixLemmas.{prefix-nil, prefix-grows, prefix-maybe}
-use Rattle.mv_machine.proofs.StepLemmas.{Change, next_item, nothing, submitted, asked, routed, closed, relayed, repeated, dropped, applied}
+use Rattle.mv_machine.proofs.StepLemmas.{Change, next_item, submitted, asked, routed, closed, relayed, applied}
 
 -- well formed and lawful
 pub record IsSound (st : State) : Type 0 where
@@ -59,7 +59,6 @@ entered-sound st entry sound fits order =
 
 -- whatever a step changes
 pub change-sound : (old new : State) (step : Step) (reply : Reply) → Change old step reply new → IsSound old → IsSound new
-change-sound st _ _ _ (nothing step reply quiet) sound = sound
 change-sound st _ _ _ (submitted from message is_party none free) sound = submitted-sound st from message sound none
 change-sound st _ _ _ (asked party key is_party free) sound = submitted-sound st party (Query key) sound refl
 change-sound st _ _ _ (routed from message is_party next free) sound =
@@ -72,9 +71,8 @@ change-sound st _ _ _ (relayed from to from_is_party to_is_party room some) soun
     let of_party : (party : ℕ) → party < length st.hub.parties → IsLawfulAt (with_relayed st.hub from to) party (site_of st party) =
     λ party is_party. assumption (sound.lawful.of_party party is_party) in
     search (with_wire-sound, square-put)
-change-sound st _ _ _ (repeated from to number room least most) sound = with_wire-sound st from to _ sound
-change-sound st _ _ _ (dropped step reply from to number rest drops front) sound = with_wire-sound st from to rest sound
 change-sound st _ _ _ (applied from to number rest item is_party to_is_party front next free) sound = with_wire-sound _ from to rest (applied-sound st from to item sound is_party next)
+change-sound old new step reply change sound = search with_wire-sound
 
 -- a party of the opening
 pub opening-site : (parties : List (List (List ℕ))) (limits : Bounds) (party : ℕ) → party < length parties
@@ -92,6 +90,5 @@ opening-sound parties limits =
 -- a run and one more step
 pub runs-push : (old : State) (steps : List Step) (replies : List Reply) (between : State) (step : Step) (reply : Reply) (new : State)
     → Runs old steps replies between → Allows between step reply new → Runs old (steps ++ step ∷ []) (replies ++ reply ∷ []) new
-runs-push old [] [] between step reply new run allowed = (new, subst (λ (st : State). Allows st step reply new) run allowed, refl)
 runs-push old (x ∷ steps) (y ∷ replies) between step reply new run allowed = (run.0, run.1, runs-push run.0 steps replies between step reply new run.2 allowed)
-runs-push old steps replies between step reply new run allowed = absurd run
+runs-push old steps replies between step reply new run allowed = grind arith

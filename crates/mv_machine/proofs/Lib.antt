@@ -5,8 +5,6 @@ pub mod PutLemmas
 pub mod StepLemmas
 pub mod LawfulLemmas
 pub mod ClosingLemmas
-pub mod StampLemmas
-pub mod SubmittedLemmas
 pub mod LimitLemmas
 pub mod HeadlineLemmas
 pub mod CallerLemmas

@@ -1,22 +1,14 @@
 -- Each step keeps the limits, and so does each run.
-use Rattle.mv_machine.proofs.Words.{All-tail, Bounds, Entry, InRuns, Item, List, LogEntry, Message, None, Query, Reply, SiteState, State, Step, [], append-nil, apply_fault, arith, ask_fault, busy_party, common_steps, drop, elements, find-none_at, gained, gained_other, get_or-replicate, is_busy, is_party, is_uplink_full, items_on, length, link_items, link_items-push, log_of, next_entry, opening, put-each_pair, route_fault, routed_count, sent_of, site_of, wire_of, with_applied, with_site, with_submission, with_wire, ℕ, ◌++◌, ◌+◌, ◌-◌, ◌<◌, ◌∷◌, ◌≡◌, ◌≤◌}
-use Rattle.mv_link.specs.declared.incoming.Look.TheVariants as look
+use Rattle.mv_machine.proofs.Words.{All-tail, Bounds, Entry, InRuns, List, Message, None, Query, Reply, State, Step, [], append-nil, arith, ask_fault, busy_party, elements, find-none_at, gained, gained_other, get_or-replicate, is_busy, is_party, is_uplink_full, items_on, length, link_items, link_items-push, next_entry, opening, put-each_pair, route_fault, sent_of, site_of, wire_of, with_site, with_submission, with_wire, ℕ, ◌++◌, ◌+◌, ◌-◌, ◌<◌, ◌∷◌, ◌≡◌, ◌≤◌}
 use Rattle.mv_machine.specs.Bounded.{IsLinkWithin, KeepsLimits}
 use Rattle.mv_machine.proofs.LawfulLemmas.{IsSound, change-sound, opening-site, opening-sound}
 use Rattle.mv_machine.proofs.BoundLemmas.{routed_count-push}
-use Rattle.mv_machine.proofs.StepLemmas.{Change, nothing, submitted, asked, routed, closed, relayed, repeated, dropped, applied, run-keeps}
+use Rattle.mv_machine.proofs.StepLemmas.{Change, submitted, asked, routed, closed, relayed, repeated, dropped, applied, run-keeps}
 
--- a party's part is another, in which it submitted more, for which it has room
-site-keeps : (st : State) (party : ℕ) (site : SiteState) → KeepsLimits st
-    → (party < length st.hub.parties → length site.submissions ≤ st.limits.submissions)
-    → (party < length st.hub.parties → length (drop (routed_count st.hub.entries party) site.submissions) ≤ st.limits.uplink)
-    → KeepsLimits (with_site st party site)
-site-keeps st party site k few room = grind (arith, common_steps)
-
--- a party that may submitted one more message, whatever its log is then
-submitted-keeps : (st : State) (from : ℕ) (message : Message) (log : List LogEntry) → IsSound st → KeepsLimits st → ask_fault (is_uplink_full st from) (site_of st from) ≡ None
-    → KeepsLimits (with_site st from (record (with_submission (site_of st from) message) { log = log }))
-submitted-keeps st from message log sound k free = grind (arith, elements)
+-- a party that may submitted one more message
+submitted-keeps : (st : State) (from : ℕ) (message : Message) → IsSound st → KeepsLimits st
+    → ask_fault (is_uplink_full st from) (site_of st from) ≡ None → KeepsLimits (with_site st from (with_submission (site_of st from) message))
+submitted-keeps st from message sound k free = grind (arith, elements)
 
 -- other frames are under way on a link
 wired-keeps : (st : State) (from to : ℕ) (numbers : List ℕ) → KeepsLimits st
@@ -48,24 +40,20 @@ routed-room st from message window k free sender to a b =
     let idle = find-none_at (is_busy st.hub from message) to (length st.hub.parties) b in
     grind (arith, window, k.links sender to a b, idle, gained_other)
 
--- an item was applied, and the answer that it calls for submitted
-applied-keeps : (st : State) (from to : ℕ) (item : Item) → IsSound st → KeepsLimits st → apply_fault (is_uplink_full st to) (site_of st to) from item look.Next ≡ None
-    → KeepsLimits (with_site st to (with_applied (site_of st to) from item))
-applied-keeps st from to item sound k free = grind (arith, append-nil, site-keeps, submitted-keeps)
-
 -- whatever a step changes
 pub change-keeps : (old new : State) (step : Step) (reply : Reply) → Change old step reply new → IsSound old → KeepsLimits old → KeepsLimits new
 unfolding gained
-change-keeps st _ _ _ (nothing step reply quiet) sound k = k
-change-keeps st _ _ _ (submitted from message is_party none free) sound k = submitted-keeps st from message (log_of st from) sound k free
-change-keeps st _ _ _ (asked party key is_party free) sound k = submitted-keeps st party (Query key) (log_of st party) sound k free
+change-keeps st _ _ _ (submitted from message is_party none free) sound k = submitted-keeps st from message sound k free
+change-keeps st _ _ _ (asked party key is_party free) sound k = submitted-keeps st party (Query key) sound k free
 change-keeps st _ _ _ (routed from message is_party next free) sound k = entered-keeps st _ k (routed-room st from message sound.well_formed.window k free)
 change-keeps st _ _ _ (closed from to from_is_party to_is_party still_open) sound k = grind (arith, entered-keeps)
 change-keeps st _ _ _ (relayed from to from_is_party to_is_party room some) sound k = grind (arith, elements)
 change-keeps st _ _ _ (repeated from to number room least most) sound k =
     wired-keeps st from to _ k (λ a b. grind (arith, elements, k.links from to a b))
 change-keeps st _ _ _ (dropped step reply from to number rest drops front) sound k = dropped-keeps st from to number rest k front
-change-keeps st _ _ _ (applied from to number rest item sender_is_party is_party front next free) sound k = dropped-keeps _ from to number rest (applied-keeps st from to item sound k free) front
+change-keeps st _ _ _ (applied from to number rest item sender_is_party is_party front next free) sound k =
+    dropped-keeps _ from to number rest (grind (arith, append-nil, elements)) front
+change-keeps old new step reply change sound k = k
 
 pub opening-keeps : (parties : List (List (List ℕ))) (limits : Bounds) → KeepsLimits (opening parties limits)
 unfolding link_items
@@ -75,5 +63,5 @@ opening-keeps parties limits = grind (arith, opening-site, get_or-replicate)
 pub runs_kept : InRuns (λ st. IsSound st × KeepsLimits st)
 runs_kept parties limits steps replies new run =
     run-keeps (λ (st : State). IsSound st × KeepsLimits st)
-    (λ old between step reply change both. (change-sound old between step reply change both.0, change-keeps old between step reply change both.0 both.1))
-    (opening parties limits) steps replies new run (opening-sound parties limits, opening-keeps parties limits)
+    (λ old between step reply change both. search (change-sound, change-keeps))
+    (opening parties limits) steps replies new run (search (opening-sound, opening-keeps))

@@ -1,7 +1,11 @@
--- Which entry of the record put each item on a link: the items of a link are put there in the order of the record.
-use Rattle.mv_machine.proofs.Words.{All, All-cons, All-nil, Bool, Carried, Entry, IsLawful, IsLawfulRecord, IsTrue, Item, List, LogEntry, Message, Receipt, Routed, Some, State, [], and_parts, append_assoc, arith, common_steps, cond, eq-eqb, eqb, eqb-true, gained, gets, is_open, is_query, is_reached, is_target, items_from, length, link_items, link_items_after, log_of, nat_lt, nat_tests, number_of, reach, refl, routed_count, slice_get, suc, take, take-append_seam, true, zero, ℕ, ◌&&◌, ◌++◌, ◌+◌, ◌<◌, ◌∷◌, ◌≡◌, ◌≤◌}
-use Rattle.mv_machine.proofs.PrefixLemmas.{slice_get-behind}
-use Rattle.mv_machine.proofs.BoundLemmas.{routed_count-push}
+-- Which entry of the record put each item on a link: the items of a link are put there in the order of the record. So what a lawful state
+-- applied is what was submitted, the numbers of its items rise, and no stamp stands twice in a log.
+use Rattle.std.specs.List.Sorted.{IsStrictlyIncreasing}
+use Rattle.mv_repository.proofs.CallerLemmas.{distinct-stamps, same_about, stamp_in}
+use Rattle.mv_machine.specs.Stamps.{StampsAreDistinct, RepositoriesAgree}
+use Rattle.mv_machine.proofs.Words.{All, All-cons, All-nil, AppliedIsSubmitted, Bool, Carried, Entry, IsLawful, IsLawfulRecord, IsRoutedAt, IsTrue, Item, List, LogEntry, Message, NumbersRise, Receipt, Routed, Some, State, [], append_assoc, arith, common_steps, filter, gained, get_or, gets, is_carried, is_open, is_query, is_reached, items_from, length, link_items, link_items_after, log_of, map, nat_tests, not, number_of, option_and_then_some, reach, routed_count, slice_get, slice_get-get_or, suc, take, take-append_seam, true, zero, ℕ, ◌++◌, ◌+◌, ◌-◌, ◌<◌, ◌∷◌, ◌≡◌, ◌≤◌}
+use Rattle.mv_machine.proofs.PrefixLemmas.{slice_get-append, slice_get-behind}
+use Rattle.mv_machine.proofs.BoundLemmas.{past, routed_count-push}
 
 -- an item is made of a message that was routed behind these entries, under this stamp
 abbrev pub IsMadeOf : List (List (List ℕ)) → List Entry → ℕ → ℕ → ℕ → Message → Item → Type 0
@@ -36,14 +40,6 @@ module _ (parties : List (List (List ℕ))) (entries : List Entry) (from to : �
   put-front least [] more put = tt
   put-front least (item ∷ items) more put = (put.0, put.1, put-front (turn item + 1) items more put.2)
 
-  pub put-rest : (least : ℕ) (item : Item) (items : List Item) → ArePut parties entries from to least (item ∷ items) → ArePut parties entries from to least items
-  put-rest least item items put = put-weaker least (turn item + 1) items (omega (arith, put.0)) put.2
-
-  -- one more item in front, where there is one
-  put-maybe : (more : Bool) (least : ℕ) (item : Item) (items : List Item) → least ≤ turn item → (more ≡ true → IsPut parties entries from to item)
-      → ArePut parties entries from to (turn item + 1) items → ArePut parties entries from to least (cond more (item ∷ []) [] ++ items)
-  put-maybe more least item items h1 h2 h3 = grind (arith, put-weaker)
-
   -- what holds of an item that was put holds of each
   pub put-each : (P : Item → Type 0) (least : ℕ) → ((item : Item) → IsPut parties entries from to item → P item) → (items : List Item) → ArePut parties entries from to least items → All P items
   put-each P least each [] put = All-nil P
@@ -71,11 +67,8 @@ module _ (parties : List (List (List ℕ))) (from to : ℕ) where
   own-put before message entries items later =
       let put = put-here before message entries in
       let k = routed_count before from + 1 in
-      let own = λ (e : (eqb to from && is_open before from from) ≡ true). let parts = and_parts _ _ e in
-      put (Receipt k (reach parties before from message) (is_query message)) (rw (eqb-true to from parts.0) parts.1) (refl, refl) in
-      let reached = λ (e : is_reached parties before from message to ≡ true). put (Carried k (length before + 1) message)
-      (and_parts (nat_lt to (length parties) && is_target parties before from message to) _ e).1 (refl, refl, e) in
-      rw (eq-eqb from from refl) (grind (arith, put-maybe))
+      let receipt = put (Receipt k (reach parties before from message) (is_query message)) in
+      grind (arith, nat_tests, put-weaker, receipt, put (Carried k (length before + 1) message))
 
   -- what the entries of a record put on a link, where others stand before them
   link-put : (before entries : List Entry) → IsLawfulRecord (length parties) (before ++ entries)
@@ -84,8 +77,8 @@ module _ (parties : List (List (List ℕ))) (from to : ℕ) where
   link-put before [] lawful = tt
   link-put before (entry ∷ entries) lawful =
       let fits = lawful.fits (length before) entry (slice_get-behind before entry entries) in
-      let later = rw append_assoc at (link-put (before ++ entry ∷ []) entries (rw append_assoc lawful)) in
-      grind (arith, nat_tests, routed_count-push, put-weaker, own-put before, take-append_seam before (entry ∷ entries))
+      let front = take-append_seam before (entry ∷ entries) in
+      grind (arith, nat_tests, routed_count-push, put-weaker, own-put before, append_assoc, link-put (before ++ entry ∷ []) entries)
 
 -- so what was applied over a link was put there
 pub log-put : (st : State) (from to : ℕ) → IsLawful st → from < length st.hub.parties → to < length st.hub.parties → ArePut st.hub.parties st.hub.entries from to 2 (items_from (log_of st to) from)
@@ -100,8 +93,7 @@ pub entry-put : (parties : List (List (List ℕ))) (entries : List Entry) (to le
 entry-put parties entries to least [] place entry at put = absurd (cc)
 entry-put parties entries to least (first ∷ log) zero entry at put = grind arith
 entry-put parties entries to least (first ∷ log) (suc place) entry at put =
-    let rest = put-rest parties entries entry.sender to least first.item (items_from log entry.sender) in
-    grind (arith, entry-put parties entries to least log place entry at, rest)
+    grind (arith, entry-put parties entries to least log place entry at, put-weaker)
 
 -- so was each entry of the log of a party, whose sender is a party
 pub log-entry : (st : State) (party place : ℕ) (entry : LogEntry) → IsLawful st → party < length st.hub.parties
@@ -112,3 +104,57 @@ log-entry st party place entry lawful is_party at =
     let from_parties = (lawful.of_party party is_party).answers.from_parties in
     let put = entry-put st.hub.parties st.hub.entries party 2 (log_of st party) place entry at in
     grind (arith, common_steps, gets, from_parties, log-put st entry.sender party lawful, put)
+
+-- the message of an entry stands under its number among those that its sender submitted
+routed_as : (st : State) (from k place : ℕ) (message : Message) → IsLawful st → from < length st.hub.parties
+    → slice_get st.hub.entries place ≡ Some (Routed from k message) → IsRoutedAt st from k (place + 1) message
+routed_as st from k place message lawful is_party at =
+    let number = (lawful.of_record.fits place (Routed from k message) at).1 in
+    grind (arith, slice_get-append, past st.hub.entries place (Routed from k message) at)
+
+pub applied_submitted : (st : State) → IsLawful st → AppliedIsSubmitted st
+applied_submitted st lawful party is_party place d within =
+    let entry = get_or (log_of st party) place d in
+    let put = log-entry st party place entry lawful is_party (slice_get-get_or (log_of st party) place d within) in
+    (put.0, grind (arith, routed_as, put.2))
+
+-- the numbers of the items of one kind, which of each message come at the same turn, rise from one on that is not among them
+kind-rises : (parties : List (List (List ℕ))) (entries : List Entry) (from to : ℕ) (P : Item → Bool) (kind : ℕ)
+    → ((item : Item) → P item ≡ true → turn item ≡ number_of item + number_of item + kind) → (least first : ℕ) (items : List Item)
+    → least + least + kind < first → ArePut parties entries from to first items → IsStrictlyIncreasing (least ∷ map number_of (filter P items))
+kind-rises parties entries from to P kind turns least first [] le put k within = absurd (omega arith)
+kind-rises parties entries from to P kind turns least first (item ∷ items) le put k within =
+    let rest = put-weaker parties entries from to first (turn item + 1) items (omega (arith, put.0)) put.2 in
+    let others = kind-rises parties entries from to P kind turns least first items le rest in
+    let later = kind-rises parties entries from to P kind turns (number_of item) (turn item + 1) items in
+    grind (arith, turns item, others k, later, k - 1)
+
+pub numbers_rise : (st : State) → IsLawful st → NumbersRise st
+numbers_rise st lawful from to from_is_party to_is_party =
+    let put = log-put st from to lawful from_is_party to_is_party in
+    let items = items_from (log_of st to) from in
+    let rise = kind-rises st.hub.parties st.hub.entries from to in (
+      λ k within. grind (arith, rise is_carried 1 (λ item. grind arith) 0 2 items (omega arith) put (suc k)),
+      λ k within. grind (arith, rise (λ item. not (is_carried item)) 0 (λ item. grind arith) 0 2 items (omega arith) put (suc k)),
+    )
+
+-- two entries of one sender and one turn stand at one place
+same-place : (parties : List (List (List ℕ))) (entries : List Entry) (to least : ℕ) (log : List LogEntry) (i j : ℕ) (one other : LogEntry)
+    → slice_get log i ≡ Some one → slice_get log j ≡ Some other → one.sender ≡ other.sender → turn one.item ≡ turn other.item
+    → ArePut parties entries one.sender to least (items_from log one.sender) → i ≡ j
+same-place parties entries to least [] i j one other first second sender same put = absurd (cc)
+same-place parties entries to least (entry ∷ log) i j one other first second sender same put =
+    grind (arith, gets, entry-put parties entries to (turn entry.item + 1) log, put-weaker, same-place parties entries to least log)
+
+pub stamps_distinct : (st : State) → IsLawful st → StampsAreDistinct st
+stamps_distinct st lawful party is_party =
+    let log = log_of st party in
+    distinct-stamps log (λ first second stamp a b.
+    option_and_then_some (λ (entry : LogEntry). stamp_in entry.item) (slice_get log first) stamp a (λ one at_one in_one.
+    option_and_then_some (λ (entry : LogEntry). stamp_in entry.item) (slice_get log second) stamp b (λ other at_other in_other.
+    let here = log-entry st party first one lawful is_party at_one in
+    let there = log-entry st party second other lawful is_party at_other in
+    grind (arith, here, there, same-place st.hub.parties st.hub.entries party 2 log first second one other at_one at_other))))
+
+pub repositories_agree : (st : State) → IsLawful st → RepositoriesAgree st
+repositories_agree st lawful pack one other one_is_party other_is_party same = search (same_about, stamps_distinct)

@@ -1,9 +1,7 @@
 -- What a step changes, and what it has seen to before: one lemma for all that every step keeps.
-use Rattle.mv_pack.specs.declared.key.PackKey.{PackKey}
-use Rattle.mv_machine.proofs.Words.{Allows, Apply, Bool, Close, InSteps, IsTrue, Item, List, Meets, Message, None, Option, Query, Relay, Repeat, Reply, Route, Runs, Some, State, Step, Submit, Verify, [], answer_number, answer_to, answers_in, applied_count, apply_fault, arith, ask_fault, entry_from, false, is_open, is_uplink_full, items_on, length, log_of, nat_tests, next-number, no_answer, reach, refl, route_fault, routed_count, sent_of, site_of, slice_get, submissions_of, submit-free, subst, sym, true, wire_of, with_applied, with_closed, with_relayed, with_routed, with_site, with_submission, with_wire, ℕ, ◌++◌, ◌+◌, ◌<◌, ◌∷◌, ◌≡◌, ◌≤◌}
+use Rattle.mv_machine.proofs.Words.{Allows, Apply, Bool, Close, InSteps, IsTrue, Item, List, Meets, Message, None, Option, Query, Relay, Repeat, Reply, Route, Runs, Some, State, Step, Submit, Verify, [], answer_number, answer_to, answers_in, applied_count, apply_fault, arith, ask_fault, entry_from, false, is_open, is_uplink_full, items_on, length, log_of, nat_tests, next-number, no_answer, reach, route_fault, routed_count, sent_of, site_of, slice_get, submissions_of, submit-free, subst, sym, true, wire_of, with_applied, with_closed, with_relayed, with_routed, with_site, with_submission, with_wire, ℕ, ◌++◌, ◌+◌, ◌<◌, ◌∷◌, ◌≡◌, ◌≤◌}
 use Rattle.mv_link.specs.declared.incoming.Look.TheVariants as look
-use Rattle.mv_machine.specs.declared.reply.Reply.TheVariants.{Refused, Submitted, Asked, Routed, Closed, Relayed, Repeated, Old, Gap, Lost, Applied}
-use Rattle.mv_machine.specs.declared.reply.Refusal.TheVariants.{Memory}
+use Rattle.mv_machine.specs.Words.{Applied, Asked, Closed, Gap, Lost, Old, PackKey, Relayed, Repeated, Routed, Submitted}
 use Rattle.mv_machine.specs.Replies.{changes_nothing}
 use Rattle.mv_repository.specs.Pack.{effect_of}
 use Rattle.mv_machine.specs.Steps.{ask, outcome}
@@ -64,8 +62,7 @@ module _ (st : State) where
   -- and so where the outcome is met: want of memory changes nothing
   meets-changes : (step : Step) (expected : Reply × State) (reply : Reply) (new : State) → Changes st step expected → Meets st expected reply new → Change st step reply new
   unfolding Meets
-  meets-changes step expected (Refused Memory) new changes met = subst (Change st step (Refused Memory)) (sym met.0) (nothing step (Refused Memory) refl)
-  meets-changes step expected reply new changes met = rw (met.0, met.1) changes
+  meets-changes step expected reply new changes met = grind (arith, nothing)
 
   pub step-changes : (step : Step) (reply : Reply) (new : State) → Allows st step reply new → Change st step reply new
   unfolding Allows

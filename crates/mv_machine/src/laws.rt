@@ -33,7 +33,7 @@ pub fn numbers_suffice()
 {}
 
 /// In every lawful state, no stamp stands twice in a log.
-#[tactic(auto, using(crate::proofs::StampLemmas::stamps_distinct))]
+#[tactic(auto, using(crate::proofs::PutLemmas::stamps_distinct))]
 pub fn stamps_are_distinct()
     ensures { InLawfulStates StampsAreDistinct }
 {}
@@ -41,7 +41,7 @@ pub fn stamps_are_distinct()
 /// In every lawful state, item `k` in the log of a repository from a sender is the `k`-th message that the sender submitted, and its
 /// stamp is the place of the record where it was routed; the repository was a target of it then, over an open link; and the numbers
 /// rise along each link.
-#[tactic(auto, using(crate::proofs::SubmittedLemmas::applied_submitted))]
+#[tactic(auto, using(crate::proofs::PutLemmas::applied_submitted))]
 pub fn items_are_submitted()
     ensures submitted { InLawfulStates AppliedIsSubmitted }
     ensures rising { InLawfulStates NumbersRise }

@@ -1,4 +1,2 @@
 pub mod Words
 pub mod SystemLemmas
-pub mod RowLemmas
-pub mod OpeningLemmas

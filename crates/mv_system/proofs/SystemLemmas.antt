@@ -1,5 +1,5 @@
 -- What each change of a part keeps, and what the list machine sees of it.
-use Rattle.mv_system.proofs.Words.{All-drop, All-push, Allows, AreWiresOf, Bool, Bounds, Change, Entry, Frame, HubState, IsFrameOf, IsSystem, IsTrue, IsWireOf, List, Message, NUMBER_LIMIT, None, Option, Reply, SiteState, Some, State, Step, WireState, [], answers_in, ap, are_parties, arith, ask_fault, cell, cell-map, change-follows, change-keeps, change-sound, drop, drop-map, false, get_or, get_or_read, headline-same, is_party, is_uplink_full, items_on, length, length-append, length-map, ltb-true, map-append, nat_le, nat_tests, new_site, new_wire, numbers_of, numbers_on, option_map, put, put-map, routed_count-few, rules, set, set-get_or, site_of, slice_get, square-put, stamps_suffice, state_of, step-changes, submitted, sym, wire_at, with_submission, ℕ, ◌++◌, ◌-◌, ◌<◌, ◌∙◌, ◌∷◌, ◌≡◌}
+use Rattle.mv_system.proofs.Words.{All, All-drop, All-push, Allows, AreBounds, AreWiresOf, Bool, Bounds, Change, Entry, Frame, HubState, IsFrameOf, IsSquare, IsSystem, IsTrue, IsWireOf, List, Message, NUMBER_LIMIT, None, Option, PARTIES_LIMIT, Reply, SiteState, Some, State, Step, WireState, [], answers_in, ap, are_parties, arith, ask_fault, cell, cell-map, change-follows, change-keeps, change-sound, drop, drop-map, false, get_or, get_or_read, headline-same, is_party, is_uplink_full, items_on, length, length-append, length-map, ltb-true, map, map-append, nat_le, nat_tests, new_hub, new_site, new_wire, numbers_of, numbers_on, opening, opening-keeps, opening-sound, option_map, put, put-map, range_with_len, routed_count-few, rules, set, set-get_or, site_of, slice_get, square-put, stamps_suffice, state_of, step-changes, submitted, table-all, wire_at, with_submission, ℕ, ◌++◌, ◌-◌, ◌<◌, ◌∙◌, ◌∷◌, ◌≡◌, ◌≤◌}
 use Rattle.std.proofs.lemmas.Option.{slice_get-map, slice_get_within, get_or_from_slice_get}
 use Rattle.mv_link.proofs.CallerLemmas.{of_longer}
 use Rattle.mv_hub.proofs.CallerLemmas.{link_items-push}
@@ -28,10 +28,6 @@ pub left : {old st : State} {limits : Bounds} {hub : HubState} {sites : List Sit
     → old ≡ st → IsSystem old before → Allows old step reply (state_of limits hub sites wires) → AreWiresOf limits.wire hub wires → Leaves st step reply limits hub sites wires
 left {old} step reply view k allowed are_wires =
     rw (← view) (allowed, changed (step-changes old step reply _ allowed) k are_wires)
-
--- the wires are those of the hub whatever was relayed
-pub wires_relayed : {size : ℕ} {hub : HubState} {wires : List (List WireState)} (sent : List (List ℕ)) → AreWiresOf size hub wires → AreWiresOf size (record hub { sent = sent }) wires
-wires_relayed sent k = record { square = k.square; each = k.each }
 
 -- the wires are those of the hub where its record has one more entry
 pub wires_entered : {size : ℕ} {hub : HubState} {wires : List (List WireState)} (entry : Entry) → AreWiresOf size hub wires
@@ -77,20 +73,18 @@ module _ {size : ℕ} {hub : HubState} {wires : List (List WireState)} (k : AreW
   frame_pushed frame new is of room =
       let short : length old.items < old.capacity = grind (arith, nat_tests, room, ap length seen, length-map, old_is.size_is) in
       let kept : new ≡ buffer (old.items ++ frame ∷ []) old.capacity = grind (arith, length-append) in
-      let numbers : numbers_of new.items ≡ cell (numbers_on wires) from to [] ++ frame.number ∷ [] =
-      ap (λ (w : WireState). numbers_of w.items) kept ∙ map-append (λ f. f.number) old.items (frame ∷ []) ∙ ap (λ l. l ++ frame.number ∷ []) (sym seen) in (
-        written new (rw kept (record { size_is = old_is.size_is; frames = All-push (IsFrameOf (items_on hub from to)) old.items frame old_is.frames of })),
-        put-map (λ w. numbers_of w.items) wires from to new ∙ ap (put (numbers_on wires) from to) numbers,
+      let frames = All-push (IsFrameOf (items_on hub from to)) old.items frame old_is.frames of in (
+        written new (rw kept (record { size_is = old_is.size_is; frames = frames })),
+        rw (put-map (λ w. numbers_of w.items) wires from to new, kept, seen, map-append (λ f. f.number) old.items (frame ∷ [])),
       )
 
   -- its front is taken away
   pub front_dropped : (new : WireState) → new ≡ buffer (drop 1 old.items) old.capacity
       → AreWiresOf size hub (put wires from to new) × (numbers_on (put wires from to new) ≡ put (numbers_on wires) from to (drop 1 (cell (numbers_on wires) from to [])))
   front_dropped new is =
-      let numbers : numbers_of new.items ≡ drop 1 (cell (numbers_on wires) from to []) =
-      ap (λ (w : WireState). numbers_of w.items) is ∙ sym (drop-map (λ f. f.number) 1 old.items) ∙ ap (drop 1) (sym seen) in (
-        written new (rw is (record { size_is = old_is.size_is; frames = All-drop (IsFrameOf (items_on hub from to)) 1 old.items old_is.frames })),
-        put-map (λ w. numbers_of w.items) wires from to new ∙ ap (put (numbers_on wires) from to) numbers,
+      let frames = All-drop (IsFrameOf (items_on hub from to)) 1 old.items old_is.frames in (
+        written new (rw is (record { size_is = old_is.size_is; frames = frames })),
+        rw (put-map (λ w. numbers_of w.items) wires from to new, is, seen, drop-map (λ f. f.number) 1 old.items),
       )
 
   -- its front is that of the numbers under way
@@ -104,3 +98,15 @@ module _ {size : ℕ} {hub : HubState} {wires : List (List WireState)} (k : AreW
 -- the record is short enough for one more entry
 pub entries-short : {st : State} {wires : List (List WireState)} → IsSystem st wires → length st.hub.entries < NUMBER_LIMIT
 entries-short {st} k = grind (arith, stamps_suffice, routed_count-few)
+
+-- the state that a system opens with, whose wires are as they were made
+abbrev opening_with : List (List (List ℕ)) → Bounds → List (List WireState) → State
+opening_with parties limits wires =
+    state_of limits (new_hub parties limits.window) (map (λ party. new_site party (length parties) limits.submissions) (range_with_len 0 (length parties))) wires
+
+pub opened : (parties : List (List (List ℕ))) (limits : Bounds) (wires : List (List WireState)) → length parties ≤ PARTIES_LIMIT → AreBounds limits
+    → IsSquare (length parties) wires → All (All (λ w. w ≡ new_wire limits.wire)) wires
+    → (opening_with parties limits wires ≡ opening parties limits) × IsSystem (opening_with parties limits wires) wires
+opened parties limits wires few bounds square empty =
+    let none = table-all (λ w. numbers_of w.items) [] (length parties) wires square (λ k d lt j e below. ap (λ (w : WireState). numbers_of w.items) (empty k d lt j e below)) in
+    grind (arith, opening-sound parties limits, opening-keeps)

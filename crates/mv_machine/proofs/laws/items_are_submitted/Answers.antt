@@ -1,4 +1,4 @@
-use Rattle.mv_machine.proofs.SubmittedLemmas.{numbers_rise}
+use Rattle.mv_machine.proofs.PutLemmas.{numbers_rise}
 use Rattle.mv_machine.proofs.laws.items_are_submitted.Goals as goal
 
 pub returns-clause-rising : goal.returns-clause-rising

@@ -1,5 +1,5 @@
 use Rattle.mv_system.proofs.Words.{◌≡◌, IsSystem, opening, state_of}
-use Rattle.mv_system.proofs.OpeningLemmas.{opened}
+use Rattle.mv_system.proofs.SystemLemmas.{opened}
 use Rattle.mv_system.proofs.world.World.open.Goals as goal
 use Rattle.mv_system.proofs.world.World.open.Goals.{In_ok-hub}
 

@@ -1,4 +1,4 @@
-use Rattle.mv_system.proofs.Words.{length, ltb-true, slice_get, sym, ap, ◌∙◌, SiteState, next_entry, option_copied, routed, routed_count}
+use Rattle.mv_system.proofs.Words.{arith, length, ltb-true, next_entry, routed}
 use Rattle.mv_system.proofs.SystemLemmas.{changed, entries-short, site_read, wires_entered}
 use Rattle.mv_system.proofs.world.World.route.Goals as goal
 
@@ -13,9 +13,8 @@ invariant_of-self-2 c =
     let site = c.index-site.result.now in
     let party = rw (c.is_party.ensures, ← c.self.view_is) at c.if-not-is_party.false in
     let here = site_read from site c.self.invariant party c.index-site.ensures in
-    let waits = ap (λ (s : SiteState). slice_get s.submissions (routed_count hub.entries from)) (sym here)
-    ∙ ap (slice_get site.submissions) (sym c.routed_count-place.ensures.value) ∙ sym c.submission.ensures ∙ ap option_copied c.in-Some.is in
-    rw c.in_ok-k.ensures.ok (changed (routed from message (ltb-true from (length hub.parties) party) waits c.in_ok-k.ensures.fault) c.self.invariant
+    rw c.in_ok-k.ensures.ok (changed (routed from message (ltb-true from (length hub.parties) party)
+    (grind (arith, here, c.routed_count-place.ensures.value, c.submission.ensures, c.in-Some.is)) c.in_ok-k.ensures.fault) c.self.invariant
     (wires_entered (next_entry hub from message) c.self.invariant.are_wires))
 
 pub invariant_of-self : goal.invariant_of-self

@@ -4,12 +4,9 @@ use Rattle.mv_system.proofs.world.World.submit.Goals as goal
 
 pub invariant_of-self-2 : goal.invariant_of-self-2
 invariant_of-self-2 c =
-    let message = c.args.message.now in
-    let full = c.is_uplink_full-uplink_full.result in
-    let site = c.index_mut-site.result.now in
-    let free = submit-free full site message c.in_ok-k.ensures.fault in
-    submitted_kept c.args.from message full site c.submit.new.self c.self.invariant c.self.view_is (rw c.is_party.ensures at c.if-not-is_party.false)
-    c.is_uplink_full-uplink_full.ensures c.index_mut-site.ensures.value c.in_ok-k.ensures.ok (no_answer message free.0) free.1
+    let free = submit-free c.is_uplink_full-uplink_full.result c.index_mut-site.result.now c.args.message.now c.in_ok-k.ensures.fault in
+    submitted_kept _ _ _ _ _ c.self.invariant c.self.view_is (rw c.is_party.ensures at c.if-not-is_party.false)
+    c.is_uplink_full-uplink_full.ensures c.index_mut-site.ensures.value c.in_ok-k.ensures.ok (no_answer _ free.0) free.1
 
 pub invariant_of-self : goal.invariant_of-self
 invariant_of-self c =

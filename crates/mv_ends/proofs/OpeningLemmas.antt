@@ -1,15 +1,11 @@
 -- Lists of ends that are opened together.
-use Rattle.mv_ends.proofs.Words.{◌≡◌, ◌∙◌, ◌<◌, ◌+◌, ℕ, List, [], ◌∷◌, ◌++◌, length, sym, arith, IsSquare, common_steps, nat_tests, Bounds, Global, Vec, sent, received, IsPair, producer_capacity, consumer_capacity, Message, Frame, Inflow, new_hub, new_site, opening, HubEnd, HubSeat, RepoEnd, Inlet, Outlet, All, AreEmpty, ap, subst, refl, map, take, zero, suc, get_or, ring_put, ring_taken, taken_by, each_row, inflow_of, table_of, repo_seat, IsSeatOf, AreEnds, AreOpened, AreLinks, opened_seat, state_of, map-append, length-map, Ring, RepoSeat}
+use Rattle.mv_ends.proofs.Words.{◌≡◌, ◌∙◌, ◌<◌, ◌+◌, ℕ, List, [], ◌∷◌, ◌++◌, length, sym, arith, IsSquare, common_steps, nat_tests, Bounds, Global, Vec, sent, received, IsPair, producer_capacity, consumer_capacity, Message, Frame, Inflow, new_hub, new_site, opening, HubEnd, RepoEnd, Inlet, Outlet, AreEmpty, ap, map, get_or, ring_put, ring_taken, taken_by, each_row, inflow_of, table_of, repo_seat, IsSeatOf, AreEnds, AreOpened, AreLinks, opened_seat, state_of, map-append, length-map, Ring, RepoSeat}
 use Rattle.std.proofs.Math.ListN.{get_or-append}
 use Rattle.std.proofs.lemmas.List.FromFn.{map-range_with_len_more}
 
-take_none : {A : Type 0} (n : ℕ) → take {A = A} n [] ≡ []
-take_none zero = refl
-take_none (suc n) = refl
-
 -- nothing was taken of a ring that nothing left
 none_taken : {T : Type 0} (end : Inlet T) → received end.ring ≡ [] → taken_by end ≡ []
-none_taken end none = rw none (take_none _)
+none_taken end none = grind (arith, common_steps)
 
 -- the two ends of a ring show one ring
 one_ring : {T : Type 0} (outlet : Outlet T) (inlet : Inlet T) (room : ℕ) → IsPair outlet inlet.ring → producer_capacity outlet ≡ room
@@ -39,56 +35,48 @@ links_more made room row ends outlet inlet was pair size other unused untaken =
     links_with made room row (inflow_of ends) (inflow_of (ends ++ inlet ∷ [])) outlet (ring_taken inlet) was (map-append ring_taken ends (inlet ∷ []))
     (map-append taken_by ends (inlet ∷ []) ∙ ap (λ l. map taken_by ends ++ l ∷ []) (none_taken inlet untaken)) (one_ring outlet inlet room pair size other) other unused
 
-module _ (hub : HubSeat) (ring : Ring) (row : List Ring) (party : ℕ) (repo : RepoSeat) where
+module _ (parties : List (List (List ℕ))) (limits : Bounds) (uplinks : List (Inlet Message)) (rows : List (Vec (Outlet Frame) Global))
+    (uplink : Inlet Message) (row : Vec (Outlet Frame) Global) where
   -- the end of the next party has its place
-  seat_with : party ≡ length hub.uplinks → party ≡ length hub.wires → repo.site ≡ new_site party (length hub.parties) hub.limits.submissions
-      → repo.uplink ≡ ring → repo.inlets ≡ row → length row ≡ length hub.parties → ring.size ≡ hub.limits.uplink
-      → All (λ (ring : Ring). ring.size ≡ hub.limits.wire) row
-      → IsSeatOf (record hub { uplinks = hub.uplinks ++ ring ∷ []; wires = hub.wires ++ row ∷ [] }) party repo
-  seat_with one other site at_uplink at_links each size sizes = grind (arith, nat_tests, common_steps)
+  seat_with : (outlet : Outlet Message) (inlets : Inflow Frame) (repo : RepoEnd) (party : ℕ) → party ≡ length uplinks → party ≡ length rows
+      → repo.site ≡ new_site party (length parties) limits.submissions → repo.uplink ≡ outlet → repo.inlets ≡ inlets
+      → IsPair outlet uplink.ring → producer_capacity outlet ≡ limits.uplink → consumer_capacity uplink.ring ≡ limits.uplink
+      → AreLinks (length parties) limits.wire row.items inlets
+      → IsSeatOf (opened_seat parties limits (uplinks ++ uplink ∷ []) (rows ++ row ∷ [])) party (repo_seat repo)
+  seat_with outlet inlets repo party one each site at_uplink at_links pair size other links =
+      grind (arith, nat_tests, common_steps, map-append, length-map, one_ring)
 
   -- the others keep theirs
-  seat_beside : party < length hub.uplinks → party < length hub.wires → IsSeatOf hub party repo
-      → IsSeatOf (record hub { uplinks = hub.uplinks ++ ring ∷ []; wires = hub.wires ++ row ∷ [] }) party repo
-  seat_beside below other seat = grind (arith, nat_tests, common_steps, get_or-append)
+  seat_beside : (party : ℕ) (repo : RepoSeat) → party < length uplinks → party < length rows
+      → IsSeatOf (opened_seat parties limits uplinks rows) party repo
+      → IsSeatOf (opened_seat parties limits (uplinks ++ uplink ∷ []) (rows ++ row ∷ [])) party repo
+  seat_beside party repo below other seat = grind (arith, nat_tests, common_steps, get_or-append, map-append, length-map)
 
 module _ (parties : List (List (List ℕ))) (limits : Bounds) (opened : ℕ) (uplinks : List (Inlet Message)) (rows : List (Vec (Outlet Frame) Global))
     (repos : List RepoEnd) (was : AreOpened parties limits opened uplinks rows repos) where
-  module _ (repo : RepoEnd) (outlet : Outlet Message) (uplink : Inlet Message) (row : Vec (Outlet Frame) Global) (inlets : Inflow Frame)
-      (site : repo.site ≡ new_site opened (length parties) limits.submissions) (at_uplink : repo.uplink ≡ outlet) (at_links : repo.inlets ≡ inlets)
-      (pair : IsPair outlet uplink.ring) (size : producer_capacity outlet ≡ limits.uplink) (other : consumer_capacity uplink.ring ≡ limits.uplink)
-      (untaken : received uplink.ring ≡ []) (links : AreLinks (length parties) limits.wire row.items inlets) where
-    abbrev hub_now : HubSeat
-    hub_now = record (opened_seat parties limits uplinks rows) { uplinks = map ring_taken uplinks ++ ring_taken uplink ∷ []; wires = each_row ring_put rows ++ map ring_put row.items ∷ [] }
-
-    more : opened_seat parties limits (uplinks ++ uplink ∷ []) (rows ++ row ∷ []) ≡ hub_now
-    more = rw (map-append ring_taken uplinks (uplink ∷ []), map-append (λ (row : Vec (Outlet Frame) Global). map ring_put row.items) rows (row ∷ [])) refl
-
-    seat_new : IsSeatOf (opened_seat parties limits (uplinks ++ uplink ∷ []) (rows ++ row ∷ [])) opened (repo_seat repo)
-    seat_new = rw more (seat_with (opened_seat parties limits uplinks rows) (ring_taken uplink) (map ring_put row.items) opened (repo_seat repo)
-        (sym (length-map uplinks ring_taken ∙ was.uplinks_each)) (sym (length-map rows (λ (row : Vec (Outlet Frame) Global). map ring_put row.items) ∙ was.rows_each))
-        (rw site refl) (rw at_uplink (one_ring outlet uplink limits.uplink pair size other)) (rw at_links links.rings)
-        (length-map row.items ring_put ∙ links.wide) other (subst (λ l. All (λ (ring : Ring). ring.size ≡ limits.wire) l) links.rings links.size))
-
-    seat_kept : (party : ℕ) (kept : RepoEnd) → party < opened → IsSeatOf (opened_seat parties limits uplinks rows) party (repo_seat kept)
-        → IsSeatOf (opened_seat parties limits (uplinks ++ uplink ∷ []) (rows ++ row ∷ [])) party (repo_seat kept)
-    seat_kept party kept below seat_was = rw more (seat_beside (opened_seat parties limits uplinks rows) (ring_taken uplink) (map ring_put row.items) party (repo_seat kept)
-        (rw (length-map uplinks ring_taken, was.uplinks_each) below) (rw (length-map rows (λ (row : Vec (Outlet Frame) Global). map ring_put row.items), was.rows_each) below) seat_was)
-
-    -- the ends that are opened, with those of the next party
-    pub opened_more : AreOpened parties limits (opened + 1) (uplinks ++ uplink ∷ []) (rows ++ row ∷ []) (repos ++ repo ∷ [])
-    opened_more = record {
-      uplinks_each = grind (arith, common_steps);
-      rows_each = grind (arith, common_steps);
-      repos_each = grind (arith, common_steps);
-      untaken = rw (map-append taken_by uplinks (uplink ∷ []), none_taken uplink untaken) (empty_more (map taken_by uplinks) was.untaken);
-      unused = grind (arith, nat_tests, common_steps, map-append);
-      wide = grind (arith, nat_tests, common_steps, map-append, length-map);
-      sites = map-append (λ (repo : RepoEnd). repo.site) repos (repo ∷ []) ∙ (λ i. was.sites i ++ site i ∷ [])
-          ∙ sym (map-range_with_len_more (λ party. new_site party (length parties) limits.submissions) 0 opened opened (omega arith));
-      seats = all_with (λ party repo. IsSeatOf (opened_seat parties limits (uplinks ++ uplink ∷ []) (rows ++ row ∷ [])) party (repo_seat repo)) repos repo opened
-          was.repos_each (λ party absent below. seat_kept party (get_or repos party absent) below (was.seats party absent below)) seat_new;
-    }
+  -- the ends that are opened, with those of the next party
+  pub opened_more : (repo : RepoEnd) (outlet : Outlet Message) (uplink : Inlet Message) (row : Vec (Outlet Frame) Global) (inlets : Inflow Frame)
+      → repo.site ≡ new_site opened (length parties) limits.submissions → repo.uplink ≡ outlet → repo.inlets ≡ inlets
+      → IsPair outlet uplink.ring → producer_capacity outlet ≡ limits.uplink → consumer_capacity uplink.ring ≡ limits.uplink
+      → received uplink.ring ≡ [] → AreLinks (length parties) limits.wire row.items inlets
+      → AreOpened parties limits (opened + 1) (uplinks ++ uplink ∷ []) (rows ++ row ∷ []) (repos ++ repo ∷ [])
+  opened_more repo outlet uplink row inlets site at_uplink at_links pair size other untaken links = record {
+    uplinks_each = grind (arith, common_steps);
+    rows_each = grind (arith, common_steps);
+    repos_each = grind (arith, common_steps);
+    untaken = grind (arith, nat_tests, common_steps, map-append, none_taken, empty_more);
+    unused = grind (arith, nat_tests, common_steps, map-append);
+    wide = grind (arith, nat_tests, common_steps, map-append, length-map);
+    sites = map-append (λ (repo : RepoEnd). repo.site) repos (repo ∷ []) ∙ (λ i. was.sites i ++ site i ∷ [])
+        ∙ sym (map-range_with_len_more (λ party. new_site party (length parties) limits.submissions) 0 opened opened (omega arith));
+    seats = all_with (λ party repo. IsSeatOf (opened_seat parties limits (uplinks ++ uplink ∷ []) (rows ++ row ∷ [])) party (repo_seat repo))
+        repos repo opened was.repos_each
+        (λ party absent below.
+        seat_beside parties limits uplinks rows uplink row party (repo_seat (get_or repos party absent))
+        (omega (arith, below, was.uplinks_each)) (omega (arith, below, was.rows_each)) (was.seats party absent below))
+        (seat_with parties limits uplinks rows uplink row outlet inlets repo opened (sym was.uplinks_each) (sym was.rows_each)
+        site at_uplink at_links pair size other links);
+  }
 
   -- once all are opened, there is a link for each pair of them
   pub square_of : opened ≡ length parties → IsSquare (length parties) (each_row sent rows)

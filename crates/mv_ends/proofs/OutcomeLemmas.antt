@@ -1,6 +1,6 @@
 -- What an outcome shows of its ends, and that the ends of one opening make a lawful one.
 use Rattle.std.proofs.lemmas.Option.{gets}
-use Rattle.mv_ends.proofs.Words.{◌≡◌, ◌<◌, ℕ, zero, suc, List, [], ◌∷◌, length, get_or, slice_index_or, set, ◌+◌, inl, inr, sym, ◌∙◌, refl, subst, arith, ltb-true, IsTrue, nat_tests, length-map, cases_lt, IsSquare, square-replicate, new_site, State, is_party, site_of, submissions_of, ◌≤◌, opened_site, opening, IsLawful, IsLawfulAt, IsWellFormed, HeadlineHolds, headline, opening-sound, HubEnd, HubSeat, RepoEnd, SameHubEnd, IsUnchanged, hub_seat, repo_seat, SameRepoEnd, IsRepoUnchanged, IsSeatOf, AreEnds, sites_of, state_of, IsOutcome}
+use Rattle.mv_ends.proofs.Words.{◌≡◌, ◌<◌, ℕ, zero, suc, List, [], ◌∷◌, length, get_or, slice_index_or, set, ◌+◌, inl, inr, sym, ◌∙◌, refl, arith, ltb-true, IsTrue, nat_tests, length-map, cases_lt, IsSquare, square-replicate, new_site, State, is_party, site_of, ◌≤◌, opened_site, opening, IsLawful, IsLawfulAt, IsWellFormed, HeadlineHolds, headline, opening-sound, HubEnd, HubSeat, RepoEnd, SameHubEnd, IsUnchanged, hub_seat, repo_seat, SameRepoEnd, IsRepoUnchanged, IsSeatOf, AreEnds, sites_of, state_of, IsOutcome}
 use Rattle.mv_ends.proofs.CallerLemmas.{ends_kept, same_but_one}
 use Rattle.mv_ends.proofs.RingLemmas.{shown_at, shows_same}
 
@@ -26,11 +26,10 @@ pub gathering_more : (st : State) (hub next_hub : HubEnd) (repos : List RepoEnd)
     → length old.site.submissions ≤ hub.limits.submissions
     → IsGathering st next_hub (set repos k new) (k + 1)
 gathering_more st hub next_hub repos k old new was below here same_hub unchanged_hub same unchanged lawful few =
-    let sites : sites_of (set repos k new) ≡ sites_of repos = shows_same repos k old new below here (λ (repo : RepoEnd). repo.site) (sites_of repos) refl unchanged.site in
     let site : site_of (state_of hub repos) k ≡ old.site = shown_at repos k old old below here (λ (repo : RepoEnd). repo.site) (sites_of repos) refl (new_site 0 0 0) in
     record {
       ends = ends_kept hub next_hub repos (set repos k new) same_hub (same_but_one repos k old new below here same) was.ends;
-      shows = grind (arith, nat_tests, sites);
+      shows = grind (arith, nat_tests, shows_same);
       each = λ party lt. elim (cases_lt party k) [
         | inl before ↦ was.each party before
         | inr after ↦
@@ -54,13 +53,12 @@ outcome_of st hub repos found was all square = record {
   well_formed = record {
     window = hub.window;
     sites_each = length-map repos (λ (repo : RepoEnd). repo.site) ∙ was.ends.each;
-    sites = λ party below. let there : party < length repos = omega (arith, below, was.ends.each) in site_seated (hub_seat hub) party repos party there (λ absent. was.ends.seats party absent there);
-    sent_each = subst (λ (it : State). IsSquare (length it.hub.parties) it.hub.sent) (sym was.shows) square;
+    sites = λ party below.
+        let there : party < length repos = omega (arith, below, was.ends.each) in
+        site_seated (hub_seat hub) party repos party there (λ absent. was.ends.seats party absent there);
+    sent_each = grind (arith, was.shows);
     wires_each = square-replicate (length hub.hub.parties) [];
   };
-  lawful = record {
-    of_record = hub.lawful;
-    of_party = λ party below. subst (λ (it : State). IsLawfulAt it.hub party (site_of it party)) (sym was.shows) (was.each party (omega arith)).0;
-  };
-  few = λ party below. subst (λ (it : State). length (submissions_of it party) ≤ it.limits.submissions) (sym was.shows) (was.each party (omega arith)).1;
+  lawful = record { of_record = hub.lawful; of_party = λ party below. grind (arith, was.each party) };
+  few = λ party below. grind (arith, was.each party);
 }

@@ -1,5 +1,5 @@
 -- Lemmas on the report.
-use Rattle.mv_ends.proofs.Words.{IfOk, List, OnOk, Result, [], ap, append-nil, arith, codes, decimal, false, filter, flat_map, head_line, in_ten_places, is_closing, length, party_line, range_with_len, refl, repeat, replicate, report_text, suc, zero, ℕ, ◌++◌, ◌+◌, ◌-◌, ◌^◌, ◌∷◌, ◌≡◌, nat_tests, flat_map_more, range-append}
+use Rattle.mv_ends.proofs.Words.{IfOk, List, OnOk, Result, [], ap, append-nil, append_assoc, arith, codes, decimal, false, filter, flat_map, head_line, in_ten_places, is_closing, length, party_line, range_with_len, refl, repeat, replicate, report_text, suc, zero, ℕ, ◌++◌, ◌+◌, ◌-◌, ◌^◌, ◌∷◌, ◌≡◌, nat_tests, flat_map_more, range-append}
 use Rattle.std.specs.Fmt.{padded_integral, format_spec, char_count}
 use Rattle.std.proofs.lemmas.Str.{encode_ascii}
 use Rattle.mv_machine.specs.State.{State}
@@ -30,3 +30,6 @@ report_whole outcome count closed lines whole all closes lines_are whole_is = rw
 -- a line came behind what was written
 pub line_behind : {E : Type 0} (r : Result (Unit {0}) E) (old new written line : List ℕ) → OnOk r (new ≡ old ++ written) → written ≡ line → IfOk r (λ _. new ≡ old ++ line)
 line_behind r old new written line behind same = grind (arith, nat_tests)
+
+-- what is written of a party
+pub ruleset line = (nat_tests, append_assoc, padded_number, line_behind)

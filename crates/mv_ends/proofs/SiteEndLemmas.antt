@@ -1,5 +1,5 @@
 -- What a repository's end keeps as it takes frames.
-use Rattle.mv_ends.proofs.Words.{◌≡◌, ◌<◌, ℕ, List, [], ◌∷◌, ◌++◌, length, arith, Bool, None, Some, ap, ◌∙◌, Reply, IsPassedAs, IsRepoOpened, KeepsOthers, false, true, is_some, known_free, Inflow, Outlet, IsTakenAs, eqb, append-nil, drop, refl, subst, sym, nat_tests, get_or-set_same, get_or-set_other, sent, Message, Item, Frame, accepted, one_more, items_from, SiteState, Taken, apply_fault, with_taken, Submitted, Refused, Memory, refusal_of, reply_to, RepoEnd, IsFront, with_item, stands_to, AreAccepted, is_full, IsRepoUnchanged, Submits, TakesFrame, Applies, Look, Refusal, eq-eqb, drop-append_seam, answer_after, answer_fault}
+use Rattle.mv_ends.proofs.Words.{◌≡◌, ◌<◌, ℕ, List, [], ◌∷◌, ◌++◌, length, arith, Bool, None, Some, ap, ◌∙◌, Reply, IsPassedAs, IsRepoOpened, KeepsOthers, false, true, is_some, known_free, Inflow, Outlet, IsTakenAs, eqb, append-nil, drop, refl, subst, sym, nat_tests, get_or-set_same, get_or-set_other, sent, Message, Item, Frame, accepted, one_more, items_from, SiteState, Taken, apply_fault, with_taken, Submitted, Refused, Memory, refusal_of, reply_to, RepoEnd, IsFront, with_item, stands_to, AreAccepted, is_full, IsRepoUnchanged, Submits, TakesFrame, Applies, Look, Refusal, eq-eqb, drop-append_seam, drop-length, answer_after, answer_fault}
 use Rattle.mv_link.specs.declared.incoming.Look.TheVariants as look
 use Rattle.mv_party.specs.declared.fault.SiteFault.{SiteFault}
 use Rattle.mv_party.proofs.CallerLemmas.{items_from-push}
@@ -24,10 +24,6 @@ apply_wanting from old new frame opened front free next = (opened, (frame, front
 pub taken_freely : (full : Bool) (site : SiteState) (from : ℕ) (item : Item) (stands : Look) → apply_fault full site from item stands ≡ None → apply_fault false site from item stands ≡ None
 taken_freely full site from item stands free = grind (arith, nat_tests)
 
--- where it took the frame, the reply says so
-pub apply_taken : (from number : ℕ) (old new : RepoEnd) (taken : Taken) → TakesFrame from old new (reply_to number taken) → Applies from old new (reply_to number taken)
-apply_taken from number old new taken takes = grind (arith, nat_tests)
-
 -- what was submitted more stands behind what was submitted
 pub more_submitted : (old more new : List Message) → old ++ more ≡ new → more ≡ drop (length old) new
 more_submitted old more new is = subst (λ l. more ≡ drop (length old) l) is (sym (drop-append_seam old more))
@@ -35,44 +31,13 @@ more_submitted old more new is = subst (λ l. more ≡ drop (length old) l) is (
 module _ (from number : ℕ) (old looked new : RepoEnd) (taken : Taken) (site : looked.site ≡ old.site) (pushed : sent looked.uplink ≡ sent old.uplink)
     (inlets : looked.inlets.taken ≡ old.inlets.taken) (others : KeepsOthers from old.inlets looked.inlets) where
   -- what is taken at an end that was looked at is taken at that end
-  taken_after : (reply : Reply) → TakesFrame from looked new reply → TakesFrame from old new reply
-  taken_after reply takes = record {
-    sender = rw (sym site) takes.sender;
-    frame = takes.frame;
-    free = rw (sym site) takes.free;
-    taken = rw (sym inlets) takes.taken;
-    others = λ other apart. takes.others other apart ∙ others other apart;
-    site = rw (sym site) takes.site;
-    pushed = rw (sym site, sym pushed) takes.pushed;
-    reply_is = rw (sym site) takes.reply_is;
-  }
-
   pub applied_after : TakesFrame from looked new (reply_to number taken) → Applies from old new (reply_to number taken)
-  applied_after takes = apply_taken from number old new taken (taken_after (reply_to number taken) takes)
+  applied_after takes = grind (arith, nat_tests)
 
 -- a frame that is not the next changes nothing
 pub passed : (site : SiteState) (from : ℕ) (item : Item) (stands : Look) → (stands ≡ look.Next → ⊥)
     → (with_taken site from item stands ≡ site) × (apply_fault false site from item stands ≡ None)
-passed site from item look.Old other = (refl, refl)
-passed site from item (look.Gap expected) other = (refl, refl)
-passed site from item look.Next other = absurd (other refl)
-
--- the end of a party that takes a frame that is not the next
-pub passes : (from number : ℕ) (old new : RepoEnd) (taken : Taken) (frame : Frame) → from < old.site.parties → IsPassedAs old.site from number taken frame
-    → new.inlets.taken ≡ with_item old.inlets.taken from frame → KeepsOthers from old.inlets new.inlets → new.site ≡ old.site → sent new.uplink ≡ sent old.uplink
-    → TakesFrame from old new (reply_to number taken)
-passes from number old new taken frame party is takes others site pushed =
-    let none = passed old.site from frame.item (stands_to old.site from frame) is.other in
-    record {
-      sender = party;
-      frame = frame;
-      free = none.1;
-      taken = takes;
-      others = others;
-      site = site ∙ sym none.0;
-      pushed = rw (site, pushed) (sym (append-nil (sent old.uplink)) ∙ ap (λ l. sent old.uplink ++ l) (more_submitted old.site.submissions [] old.site.submissions (append-nil old.site.submissions)));
-      reply_is = λ i. reply_to (sym is.numbered i) (is.is_taken i);
-    }
+passed site from item stands other = grind (arith, nat_tests)
 
 module _ (message : Message) (old looked new : RepoEnd) (site : looked.site ≡ old.site) (pushed : sent looked.uplink ≡ sent old.uplink)
     (inlets : looked.inlets.taken ≡ old.inlets.taken) (in_hand : looked.inlets.in_hand ≡ old.inlets.in_hand) where
@@ -98,6 +63,9 @@ from_sender site sender frame frames seen = grind (arith, nat_tests, eq-eqb send
 pub accepted_taken : (site : SiteState) (sender : ℕ) (frame : Frame) (taken : List (List Frame)) → sender < length taken → AreAccepted site.parties site.log taken
     → let next = with_taken site sender frame.item (stands_to site sender frame) in AreAccepted next.parties next.log (with_item taken sender frame)
 accepted_taken site sender frame taken there all from in_range = grind (arith, nat_tests, from_other, from_sender, get_or-set_other, get_or-set_same)
+
+-- what a frame that is not the next leaves
+pub ruleset passing = (passed, append-nil, drop-length)
 
 -- the next frame of those at the front
 module _ (site : SiteState) (full : Bool) (from : ℕ) (frame : Frame) (is : IsTakenAs site full from look.Next frame) where

@@ -112,6 +112,7 @@ impl HubEnd {
     /// Answers `Routed`, or the first of these refusals that holds: S1, there is no such party; S5, no message of the party
     /// is there to be routed, or as many of its messages were routed as it may submit; S6, a link has no room; S14, memory was
     /// refused. S5 may be told though a message was just put on the uplink.
+    #[tactic(auto, using(crate::proofs::EndLemmas::lawful_routed, crate::proofs::EndLemmas::room_left))]
     pub fn route(&mut self, from: Party) -> Reply
         ensures same { SameHubEnd self.old self.new }
         ensures reply { Routes from self.old self.new result }
@@ -190,7 +191,7 @@ impl HubEnd {
     ///
     /// Answers `Closed`, or the first of these refusals that holds: S1, one of the parties is none; S12, the link is closed
     /// already; S14, memory was refused.
-    #[tactic(auto, using(crate::proofs::EndLemmas::of_links_entered, crate::proofs::EndLemmas::took_closed, crate::proofs::EndLemmas::within_closed, crate::proofs::EndLemmas::lawful_closed, crate::proofs::EndLemmas::closable))]
+    #[tactic(auto, using(crate::proofs::EndLemmas::closing))]
     pub fn close(&mut self, from: Party, to: Party) -> Reply
         ensures same { SameHubEnd self.old self.new }
         ensures reply { Closes from to self.old self.new result }
@@ -240,6 +241,7 @@ impl HubEnd {
     }
 
     /// Puts a frame of a link on its ring, which has room.
+    #[tactic(auto, using(crate::proofs::EndLemmas::square))]
     fn put(&mut self, from: Party, to: Party, frame: Parcel<Frame>)
         requires parties { IsTrue (are_parties self.old.hub from to) }
         requires room { HasRoomOn self.old.wires from to }

@@ -35,6 +35,7 @@ struct Opened {
 
 /// The ends of a system where nothing has happened: the hub's, and that of each repository, in order of party. There is a ring
 /// for the uplink of each party, and one for each ordered pair, of the sizes that the limits give. Refused for want of memory.
+#[tactic(auto, using(crate::proofs::OpeningLemmas::ends_of, crate::proofs::OpeningLemmas::fresh_of, crate::proofs::OpeningLemmas::square_of))]
 pub fn open(
     alloc: Global,
     parties: Parties,
@@ -85,6 +86,7 @@ impl Opened {
 }
 
 /// The two ends of the links to one party from so many.
+#[tactic(auto, using(crate::proofs::OpeningLemmas::links_more))]
 fn open_links(alloc: Global, count: u32, room: u32) -> Result<(Outlets, Inlets<Frame>), AllocError>
     ensures { IfOk result (λ ends. AreLinks count room ends.0.items ends.1) }
 {

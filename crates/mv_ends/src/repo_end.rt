@@ -259,7 +259,7 @@ impl RepoEnd {
     }
 
     /// Takes the frame in hand of a party, and applies it: it is the next. Refused for want of memory, nothing has changed.
-    #[tactic(auto, using(crate::proofs::SiteEndLemmas::next_free, crate::proofs::SiteEndLemmas::next_room))]
+    #[tactic(auto, using(crate::proofs::SiteEndLemmas::next_free, crate::proofs::SiteEndLemmas::next_room, crate::proofs::SiteEndLemmas::taken_freely, crate::proofs::SiteEndLemmas::more_submitted))]
     fn apply_next(&mut self, from: Party) -> Result<Taken, AllocError>
         requires from { from < self.old.site.parties }
         requires count { count_from self.old.site.log from < NUMBER_LIMIT }
@@ -280,6 +280,7 @@ impl RepoEnd {
     }
 
     /// Takes the frame in hand of a party, of this number, which changes nothing: it is old, or behind a gap.
+    #[tactic(auto, using(crate::proofs::SiteEndLemmas::passing))]
     fn pass_over(&mut self, from: Party, number: u32, taken: Taken) -> Reply
         requires from { from < self.old.site.parties }
         requires in_hand { slice_index_or self.old.inlets.in_hand from false ≡ true }

@@ -16,6 +16,7 @@ const HEAD: &str =
 
 /// The report of what is gathered: a line of heads, a line for each party with what it submitted, what of this was routed and what
 /// its repository has, and a line with how many links were closed.
+#[tactic(auto, using(crate::proofs::ReportLemmas::report_whole))]
 pub fn report(alloc: Global, outcome: &Outcome) -> Result<String, AllocError>
     ensures { IfOk result (λ text. string_bytes text ≡ report_text outcome.now) }
 {
@@ -30,6 +31,7 @@ pub fn report(alloc: Global, outcome: &Outcome) -> Result<String, AllocError>
 }
 
 /// Writes the line of a party, each number on the right of ten places; one that is wider is written whole.
+#[tactic(auto, using(crate::proofs::ReportLemmas::line), unfolding(crate::specs::Report::party_line))]
 fn push_party(text: &mut String, outcome: &Outcome, party: Party) -> Result<(), AllocError>
     requires { IsTrue (is_party outcome.now party) }
     ensures { IfOk result (λ _. string_bytes text.new

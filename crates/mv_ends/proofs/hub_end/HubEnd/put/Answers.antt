@@ -1,10 +1,5 @@
-use Rattle.mv_ends.proofs.Words.{length, square-put}
 use Rattle.mv_ends.proofs.EndLemmas.{of_links_put}
 use Rattle.mv_ends.proofs.hub_end.HubEnd.put.Goals as goal
-
-pub invariant_of-self-clause-square : goal.invariant_of-self-clause-square
-invariant_of-self-clause-square c =
-    rw c.put.ensures.puts (square-put (length c.args.self.now.hub.parties) c.args.self.now.wires.put c.args.to c.args.from _ c.args.self.now.square)
 
 pub invariant_of-self-clause-of_links : goal.invariant_of-self-clause-of_links
 invariant_of-self-clause-of_links c =

@@ -69,14 +69,19 @@ fn is_blank(byte: u8) -> bool
     byte <= b' ' && matches!(byte, b' ' | b'\t' | b'\n' | b'\r')
 }
 
-/// Where the text goes on behind a value, as at its beginning: at the next key or value behind a comma, or at what closes.
+/// Where the text goes on behind a value, as at its beginning: at the next key or value behind a comma, or at what closes. A number or a
+/// word ends there.
 #[inline(always)]
 fn value_end(text: &str, end: usize) -> Option<usize>
     requires place { IsCharBoundary text.now end }
-    ensures { IfSome result (λ at. GoesOn text.now end at) }
+    ensures on { IfSome result (λ at. GoesOn text.now end at) }
+    ensures word { IfSome result (λ _. ends_word (drop end text.now) ≡ true) }
 {
     let bytes = text.as_bytes();
-    let at = past_blanks(text, end);
+    let mut at = end;
+    if at < bytes.len() && is_blank(bytes[at]) {
+        at = past_blanks(text, at + 1);
+    }
     if at == bytes.len() {
         return Some(at);
     }
@@ -142,7 +147,8 @@ fn plain_number<'a>(text: &'a str, at: usize) -> Option<(u64, &'a str, usize)>
 {
     let bytes = text.as_bytes();
     let (number, end) = whole_at(bytes, at)?;
-    if !is_word_end(bytes, end) {
+    // What follows is no part of another character.
+    if end < bytes.len() && !bytes[end].is_ascii() {
         return None;
     }
     Some((number, &text[at..end], value_end(text, end)?))
@@ -168,25 +174,9 @@ fn plain_word<'a>(
         return None;
     }
     let end = at + name.len();
-    if !is_word_end(bytes, end) {
+    // What follows is no part of another character.
+    if end < bytes.len() && !bytes[end].is_ascii() {
         return None;
     }
     Some((token, value_end(text, end)?))
-}
-
-/// Whether a number or a word ends before a place.
-#[inline(always)]
-fn is_word_end(bytes: &[u8], end: usize) -> bool
-    requires within { end ≤ length bytes.now }
-    ensures { result ≡ ends_word (drop end bytes.now) }
-{
-    end == bytes.len() || is_delimiter(bytes[end])
-}
-
-/// Whether a byte ends a number or a word.
-#[inline(always)]
-fn is_delimiter(byte: u8) -> bool
-    ensures { result ≡ (is_operator byte || is_space byte) }
-{
-    matches!(byte, b'{' | b'}' | b'[' | b']' | b':' | b',') || is_blank(byte)
 }

@@ -7,6 +7,11 @@ use Rattle.serde_json.specs.Read.{number_of}
 use Rattle.mv_json.specs.inside.Parts.{IsOneOf}
 use Rattle.json.specs.Token as token
 use Rattle.mv_format.specs.declared.field.LineField.TheVariants as fields
+use Rattle.mv_format.specs.declared.request.Request.TheVariants.{Step as AStep}
+use Rattle.mv_format.specs.Words.{LineFault, Memory}
+use Rattle.mv_machine.specs.declared.step.Step.{Step}
+use Rattle.std.specs.Prelude.{Err, MatchResult, Result}
+use Rattle.std.specs.Result.{result_ok}
 
 -- ---- tokens
 
@@ -100,6 +105,16 @@ request_read value met kind request (named, has, all) among is asks =
     let (members, is_object, known) = known_only field_name (λ field. field) (fields.Do ∷ (shape_of kind).0) has known_fields in
     let opened : as_object value ≡ Some members = ap as_object is_object in
     rw (opened, is, none_unknown (names_of kind) (keys_of members) known) asks
+
+-- so does one of these fields, of which a step was read
+pub step_told : (met : LineFields) (text : List ℕ) (kind : LineKind) (result : Result Step LineFault) → met_of met fields.Do ≡ Some (Text text)
+    → kind_named text ≡ Some kind → ((field : LineField) → is_some (met_of met field) ≡ true → IsOneOf (fields.Do ∷ (shape_of kind).0) field)
+    → ((value : Data) → HasFields value met → MatchResult result
+    (λ step. asked_by kind value ≡ Ok (AStep step)) (λ fault. fault ≢ Memory → asked_by kind value ≡ Err fault))
+    → IfSome (result_ok result) (λ step. (value : Data) → HasFields value met → read_request value ≡ Ok (AStep step))
+step_told met text kind (Err fault) named is among asks = tt
+step_told met text kind (Ok step) named is among asks =
+    λ value has. request_read value met kind (AStep step) has among (kind_told met text kind named is value has) (asks value has)
 
 -- the line asks what its tokens ask
 pub line_asks : (s : List ℕ) (request : Request) → IsUtf8 s → Asks (tokens s) request [] → read_line s ≡ Ok request

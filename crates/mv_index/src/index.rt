@@ -11,6 +11,9 @@ use std::marker::Model;
 /// How many numbers there are for each bucket, at most.
 const LOAD: usize = 3;
 
+/// How many buckets are near to the processor anyway: 32 KiB of them.
+const NEAR: usize = 4_096;
+
 /// The most numbers that an index has.
 pub const MOST_NUMBERS: usize = 1 << 31;
 
@@ -123,11 +126,11 @@ impl HashIndex {
     }
 
     /// Looks once at the buckets of values that will soon be looked for, so that the processor gets them from memory side by side, and not one
-    /// behind the other. Nothing changes.
+    /// behind the other. Where there are few it looks at none. Nothing changes.
     pub fn touch<T: Hash>(&mut self, soon: &[T])
         ensures { self.new ≡ self.old }
     {
-        if self.buckets.is_empty() {
+        if self.buckets.len() <= NEAR {
             return;
         }
         let mut seen = 0;

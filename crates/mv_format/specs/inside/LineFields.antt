@@ -1,14 +1,13 @@
 -- What stands in the fields of a line, as they are met in its object; the tokens of JSON that it is read from; and what reading lists
 -- of markets gives, one member after the other.
 use Rattle.std.specs.Prelude.{ℕ, if◌then◌else◌, is_some, List, [], ◌∷◌, ◌++◌, Contains, Option, Some, None, option_map, Result, Ok, Err, MatchResult, ok_or, true, ◌≢◌, ◌≡◌, ◌⊎◌, ◌<◌, ◌^◌}
-use Rattle.mv_format.specs.Words.{Data, Items, Kind, LineFault, LineField, LineKind, Pack, as_array, as_list, as_str, each_of, item, map_err, no_items, read_market, ◌and_then◌, GivesOr, Memory, Request, Token, read_message, string, view, whole}
+use Rattle.mv_format.specs.Words.{Data, Items, Kind, LineFault, LineField, LineKind, Pack, as_array, as_list, as_str, each_of, item, map_err, no_items, read_market, ◌and_then◌, GivesOr, Memory, Request, Step, Token, read_message, string, view, whole}
 use Rattle.mv_format.specs.Reading.{member_at}
 use Rattle.mv_json.specs.Met.{BeginWith}
 use Rattle.mv_json.specs.inside.Parts.{HasMet}
 use Rattle.mv_format.specs.declared.line_fields.LineFields.{LineFields}
 use Rattle.mv_format.specs.declared.line_fields.LineObject.{LineObject}
-use Rattle.mv_format.specs.declared.request.Request.TheVariants.{Step as AStep}
-use Rattle.mv_machine.specs.declared.step.Step.{Step}
+use Rattle.mv_machine.specs.declared.step.Step.{Step as AStep}
 use Rattle.mv_message.specs.declared.message.Message.{Message as AMessage}
 use Rattle.mv_format.specs.Fields.{field_name}
 use Rattle.mv_format.specs.Kinds.{shape_of}
@@ -105,9 +104,9 @@ abbrev pub asked_by : LineKind → Data → Result Request LineFault
 asked_by kind value = asked_at (shape_of kind).0 (shape_of kind).1 value
 
 -- the fields of a line of a kind ask this step, or have this fault; or want of memory stands in its place
-abbrev pub MayAsk : LineKind → LineObject → Result Step LineFault → Type 0
+abbrev pub MayAsk : LineKind → LineObject → Result AStep LineFault → Type 0
 MayAsk kind object result = (value : Data) → Stands value object → MatchResult result
-    (λ step. asked_by kind value ≡ Ok (AStep step))
+    (λ step. asked_by kind value ≡ Ok (Step step))
     (λ fault. fault ≢ Memory → asked_by kind value ≡ Err fault)
 
 -- the tokens are an object that asks this, then the rest

@@ -68,7 +68,7 @@ impl Listing {
     /// The numbers of the tracks that a stop may bear on, each once; none where it may bear on any.
     pub fn of(&self, stop: &Stop<'_>) -> Option<&[u32]>
         ensures { MatchOption result ((number : ℕ) → may_stop self.now stop.now number ≡ true)
-            (λ numbers. (number : ℕ) → may_stop self.now stop.now number ≡ list_any (λ one. one == number) numbers.now) }
+            (λ numbers. (number : ℕ) → may_stop self.now stop.now number ≡ list_any (λ one. number == one) numbers.now) }
     {
         match *stop {
             Stop::OfBatch(key) if self.is_whole => match self.batches.get(&key.batch) {

@@ -127,9 +127,9 @@ module _ (log : List LogEntry) where
 
     -- and no more than 64 bits hold
     pub counted-whole : (tables : Tables) (count : ℕ) → AreTablesOf log tables → IsDistinct bytes_eq (keys_of tables.shelves.entries)
-        → tables.named < 2 ^ 64 → count ≡ min (slots_in counted tables.shelves.entries) (2 ^ 64 - 1)
+        → count ≡ min (slots_in counted tables.shelves.entries) (2 ^ 64 - 1)
         → count ≡ distinct_count is_same_pack (filter (λ pack. is_counted counted (kept_of (life_of pack log))) (uploaded_packs log))
-    counted-whole tables count are d fits e = grind (arith, nat_tests, all-counted, count_by-le-length, distinct_count-le, length-filter)
+    counted-whole tables count are d e = grind (arith, nat_tests, are.few.0, are.few.1, all-counted, count_by-le-length, distinct_count-le, length-filter)
 
 -- the packs that are held are those that the log names
 pub held-all : (log : List LogEntry)

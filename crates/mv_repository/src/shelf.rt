@@ -192,6 +192,7 @@ impl Shelf {
         requires shelf { AreShelfOf (take newest.now.place newest.now.log.now) gtin.now self.old }
         ensures ok { OnOk result (AreShelfOf newest.now.log.now gtin.now self.new) }
         ensures effect { IfOk result (λ effect. effect ≡ newest_effect newest.now.log.now newest.now.place) }
+        ensures few { OnOk result (length serials.now ≤ MOST_SERIALS) }
         ensures err { OnErr result (AreShelfOf (take newest.now.place newest.now.log.now) gtin.now self.new) }
     {
         if serials.len() > MOST_SERIALS {

@@ -24,8 +24,6 @@ pub struct Tables {
     pub(crate) stops: Stops,
     /// What is kept of the packs of each product.
     pub(crate) shelves: IndexMap<Gtin, Shelf>,
-    /// How many packs all uploads name, each as often as it is named.
-    pub(crate) named: usize,
 }
 
 impl Tables {
@@ -41,7 +39,6 @@ impl Tables {
                 withdrawals: IndexMap::new(alloc),
             },
             shelves: IndexMap::new(alloc),
-            named: 0,
         }
     }
 
@@ -50,7 +47,6 @@ impl Tables {
         ensures { (log : List AnEntry) → AreTablesOf log self.now
             → result ≡ distinct_count is_same_pack (filter (λ pack. is_counted counted (kept_of (life_of pack log))) (uploaded_packs log)) }
     {
-        prove!(self.named <= usize::MAX);
         let mut count = 0usize;
         for (_, shelf) in self.shelves.iter() {
             count = count.saturating_add(shelf.count(counted));
@@ -67,11 +63,6 @@ impl Tables {
         ensures effect { IfOk result (λ effect. effect ≡ newest_effect log.now place) }
         ensures err { OnErr result (AreTablesOf (take place log.now) self.new) }
     {
-        let newest = Newest {
-            log,
-            stops: &self.stops,
-            place,
-        };
         let Some(message) = message_at(log, place as usize) else {
             return Ok(Effect::Noted);
         };
@@ -81,23 +72,33 @@ impl Tables {
                 if matches!(last, Some(last) if passes(log, place, last)) {
                     return Ok(Effect::Done);
                 }
-                self.masters.insert(*gtin, place)?;
-                Ok(Effect::Done)
+                match self.masters.insert(*gtin, place) {
+                    Ok(_) => Ok(Effect::Done),
+                    Err(_) => Err(AllocError),
+                }
             }
             Message::Upload { gtin, serials, .. } => {
-                let serials = serials.as_slice();
-                if serials.len() > usize::MAX - self.named {
+                let Ok(shelf) = self.shelves.entry(*gtin) else {
                     return Err(AllocError);
-                }
-                let shelf = self.shelves.entry(*gtin)?;
+                };
                 let shelf = shelf.or_insert(Shelf::new(self.alloc));
-                let effect = shelf.add_upload(&newest, gtin, serials)?;
-                self.named += serials.len();
-                Ok(effect)
+                let newest = Newest {
+                    log,
+                    stops: &self.stops,
+                    place,
+                };
+                shelf.add_upload(&newest, gtin, serials.as_slice())
             }
             Message::Status { key, .. } => {
-                let shelf = self.shelves.entry(key.gtin)?;
+                let Ok(shelf) = self.shelves.entry(key.gtin) else {
+                    return Err(AllocError);
+                };
                 let shelf = shelf.or_insert(Shelf::new(self.alloc));
+                let newest = Newest {
+                    log,
+                    stops: &self.stops,
+                    place,
+                };
                 shelf.add_status(self.alloc, &newest, key)
             }
             Message::Recall { key, .. } => self.add_stop(log, &Stop::OfBatch(key), place),

@@ -10,6 +10,7 @@ use crate::state::Newest;
 use crate::stops::Stop;
 use crate::track::Track;
 use crate::{Effect, LogEntry};
+use indexmap::IndexMap;
 use mv_index::{HashIndex, hash_of};
 use mv_pack::{Gtin, PackKey, Serial};
 use std::alloc::{AllocError, Global};
@@ -80,7 +81,11 @@ impl Shelf {
             slots: Vec::new(alloc),
             names: Vec::new(alloc),
             tracks: Vec::new(alloc),
-            listing: Listing::new(alloc),
+            listing: Listing {
+                alloc,
+                batches: IndexMap::new(alloc),
+                is_whole: true,
+            },
         }
     }
 

@@ -1,7 +1,7 @@
 //! The tables that a repository keeps of its log, and what one more entry does to them.
 
 ghost use Rattle.std.specs.Prelude.{◌≡◌, ◌+◌};
-ghost use Rattle.mv_repository.specs.Clauses.{AnEntry, AreTablesOf, IfOk, List, OnErr, OnOk, [], distinct_count, entry_at, filter, is_counted, is_same_pack, is_stop, length, newest_effect, take, kept_of, life_of, true, uploaded_packs};
+ghost use Rattle.mv_repository.specs.Clauses.{AnEntry, AreTablesOf, IfOk, List, OnErr, OnOk, distinct_count, entry_at, filter, is_counted, is_same_pack, is_stop, length, newest_effect, take, kept_of, life_of, true, uploaded_packs};
 
 use crate::entry::{message_at, passes};
 use crate::shelf::{Counted, Shelf};
@@ -14,10 +14,9 @@ use mv_pack::Gtin;
 use std::alloc::{AllocError, Global};
 
 /// What is found in a log without a search.
-#[derive(Drop)]
 pub struct Tables {
     /// What memory is got from.
-    alloc: Global,
+    pub(crate) alloc: Global,
     /// For each product code with a master, the place in the log of the last one by stamp.
     pub(crate) masters: IndexMap<Gtin, u32>,
     /// The first recalls and withdrawals.
@@ -26,22 +25,19 @@ pub struct Tables {
     pub(crate) shelves: IndexMap<Gtin, Shelf>,
 }
 
-impl Tables {
-    /// The tables of an empty log. They take no memory.
-    pub fn new(alloc: Global) -> Tables
-        ensures { AreTablesOf [] result }
-    {
-        Tables {
-            alloc,
-            masters: IndexMap::new(alloc),
-            stops: Stops {
-                recalls: IndexMap::new(alloc),
-                withdrawals: IndexMap::new(alloc),
-            },
-            shelves: IndexMap::new(alloc),
-        }
+// Written here, so that the drop of a repository proves nothing of how its tables are dropped.
+impl Drop for Tables {
+    fn drop(self) {
+        let Self {
+            alloc: _,
+            masters: _,
+            stops: _,
+            shelves: _,
+        } = self;
     }
+}
 
+impl Tables {
     /// How many packs are counted, each once.
     pub fn count(&self, counted: Counted) -> usize
         ensures { (log : List AnEntry) → AreTablesOf log self.now

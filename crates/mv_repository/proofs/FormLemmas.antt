@@ -76,8 +76,7 @@ module _ (whole : List LogEntry) (place : ℕ) (l : length whole ≡ place + 1) 
   AreFew w = (length (uploaded_packs w) ≤ 65536 * length w) × (length w ≤ 4294967296)
 
   pub few-more : length (uploaded_in entry.item) ≤ 65536 → place < 4294967296 → AreFew log → AreFew whole
-  few-more own fits few = let more = named-longer log entry whole (log-split whole place l) in
-      (omega (arith, more, log-length whole place l, few.0), omega arith)
+  few-more own fits few = let more = named-longer log entry whole (log-split whole place l) in (omega (arith, more, log-length whole place l, few.0), omega arith)
 
   pub few-at : uploaded_in entry.item ≡ [] → place < 4294967296 → AreFew log → AreFew whole
   few-at none = few-more (omega (arith, ap length none))

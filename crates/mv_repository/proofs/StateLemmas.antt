@@ -24,10 +24,7 @@ abbrev next : FirstStops → PackKey → Option KnownPack → Placed → Option 
 next stops pack known x = pack_after_item (standing_at stops x) x.place x.entry.sender x.entry.item pack known
 
 batch-stands : (before : List Placed) (x : Placed) (rest : List Placed) → Ascends (before ++ x ∷ rest) → batch_standing before ≡ standing_at (first_stops (before ++ x ∷ rest)) x
-batch-stands before x rest a = λ i batch. record {
-  recalled = first-before (λ placed. is_recall_of batch placed.entry.item) before x rest a i;
-  withdrawn = first-before (λ placed. is_withdrawal_of batch.gtin placed.entry.item) before x rest a i;
-}
+batch-stands before x rest a = λ i batch. record { recalled = first-before (λ y. is_recall_of batch y.entry.item) before x rest a i; withdrawn = first-before (λ y. is_withdrawal_of batch.gtin y.entry.item) before x rest a i }
 
 state-fold : (all before rest : List Placed) (pack : PackKey) (known : Option KnownPack) → all ≡ before ++ rest → Ascends all
     → known_pack_from before rest pack known ≡ fold (next (first_stops all) pack) known rest
@@ -129,18 +126,15 @@ pub grown-by : (stops : FirstStops) (pack : PackKey) (birth : Placed) (xs : List
 grown-by stops pack birth xs = grind (arith, nat_tests, born, grown-from)
 
 -- a pack that another changed goes through a status that is no revert of its sender
-passed : (log : List LogEntry) (stops : FirstStops) (gtin : List ℕ) (birth by place : ℕ) (reverters : PartySet)
-    → is_active (standing_of (message_in (entry_at log by).entry.item)) ≡ false → has_party reverters ((entry_at log by).entry.sender % PARTIES_LIMIT) ≡ false
-    → IsCovered reverters (entry_at log place) → next_place log stops gtin birth by place ≡ by
+passed : (log : List LogEntry) (stops : FirstStops) (gtin : List ℕ) (birth by place : ℕ) (reverters : PartySet) → is_active (standing_of (message_in (entry_at log by).entry.item)) ≡ false
+    → has_party reverters ((entry_at log by).entry.sender % PARTIES_LIMIT) ≡ false → IsCovered reverters (entry_at log place) → next_place log stops gtin birth by place ≡ by
 passed log stops gtin birth by place reverters changed none covered = grind (arith, nat_tests)
 
 -- so it does by many
-pub own_passed : (log : List LogEntry) (stops : FirstStops) (gtin : List ℕ) (birth by : ℕ) (own : List ℕ) (reverters : PartySet)
-    → is_active (standing_of (message_in (entry_at log by).entry.item)) ≡ false → has_party reverters ((entry_at log by).entry.sender % PARTIES_LIMIT) ≡ false
-    → AllByRecursion (λ place. IsCovered reverters (entry_at log place)) own → fold (next_place log stops gtin birth) by own ≡ by
+pub own_passed : (log : List LogEntry) (stops : FirstStops) (gtin : List ℕ) (birth by : ℕ) (own : List ℕ) (reverters : PartySet) → is_active (standing_of (message_in (entry_at log by).entry.item)) ≡ false
+    → has_party reverters ((entry_at log by).entry.sender % PARTIES_LIMIT) ≡ false → AllByRecursion (λ place. IsCovered reverters (entry_at log place)) own → fold (next_place log stops gtin birth) by own ≡ by
 own_passed log stops gtin birth by [] reverters changed none covered = refl
-own_passed log stops gtin birth by (place ∷ own) reverters changed none covered =
-    ap (λ (b : ℕ). fold (next_place log stops gtin birth) b own) (passed log stops gtin birth by place reverters changed none covered.0) ∙ own_passed log stops gtin birth by own reverters changed none covered.1
+own_passed log stops gtin birth by (place ∷ own) reverters changed none covered = ap (λ (b : ℕ). fold (next_place log stops gtin birth) b own) (passed log stops gtin birth by place reverters changed none covered.0) ∙ own_passed log stops gtin birth by own reverters changed none covered.1
 
 abbrev NamesIts : List LogEntry → PackKey → Option KnownPack → Type 0
 NamesIts log pack known = IfSome known (λ held. IfSome held.change (NamesStatus log pack held.standing))

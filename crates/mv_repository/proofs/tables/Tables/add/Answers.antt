@@ -31,15 +31,12 @@ module _ (c : goal.After-self-in-Upload-2-1) where
   shelved = shelf-written c.args.self.now.shelves.entries _ _ c.in-Upload.gtin c.add_upload.new.self (c.in-Ok-entry.ensures.update.0 c.add_upload.new.self).0 (search rules)
 
 pub returns-in-Ok-entry-clause-ok : goal.returns-in-Ok-entry-clause-ok
-returns-in-Ok-entry-clause-ok c = let item = (get_or c.args.log.now c.args.place no_entry).item in
-    let form = upload-form item c.in-Upload.gtin c.as_slice.result.now (uploaded c) in
-    on_both c.add_upload.result c.add_upload.ensures.ok c.add_upload.ensures.few (λ now few. tables-follow c.args.log.now c.args.place c.requires.last c.args.self.now _ c.in-Upload.gtin c.add_upload.new.self form.2 c.requires.tables refl
-    (stops-at c.args.log.now c.args.place c.requires.last c.args.self.now.stops form.1 c.requires.tables.stops) (shelved c) now (upload-away c.args.log.now c.args.place c.in-Upload.gtin c.as_slice.result.now c.requires.last (uploaded c))
+returns-in-Ok-entry-clause-ok c = let item = (get_or c.args.log.now c.args.place no_entry).item in let form = upload-form item c.in-Upload.gtin c.as_slice.result.now (uploaded c) in
+    on_both c.add_upload.result c.add_upload.ensures.ok c.add_upload.ensures.few (λ now few. tables-follow c.args.log.now c.args.place c.requires.last c.args.self.now _ c.in-Upload.gtin c.add_upload.new.self form.2 c.requires.tables refl (stops-at c.args.log.now c.args.place c.requires.last c.args.self.now.stops form.1 c.requires.tables.stops) (shelved c) now (upload-away c.args.log.now c.args.place c.in-Upload.gtin c.as_slice.result.now c.requires.last (uploaded c))
     (few-more c.args.log.now c.args.place c.requires.last (omega (arith, few, named-upload c.in-Upload.gtin c.as_slice.result.now item (uploaded c))) (omega arith) c.requires.tables.few))
 
 pub returns-in-Ok-entry-clause-err : goal.returns-in-Ok-entry-clause-err
-returns-in-Ok-entry-clause-err c = let before = take c.args.place c.args.log.now in
-    map_err c.add_upload.result c.add_upload.ensures.err (λ now. record { masters = c.requires.tables.masters; stops = c.requires.tables.stops; few = c.requires.tables.few; shelves = shelves-follow c.args.self.now.shelves.entries _ c.in-Upload.gtin c.add_upload.new.self (shelved c) before before c.requires.tables.shelves now (λ other e parts h. h) })
+returns-in-Ok-entry-clause-err c = let before = take c.args.place c.args.log.now in map_err c.add_upload.result c.add_upload.ensures.err (λ now. record { masters = c.requires.tables.masters; stops = c.requires.tables.stops; few = c.requires.tables.few; shelves = shelves-follow c.args.self.now.shelves.entries _ c.in-Upload.gtin c.add_upload.new.self (shelved c) before before c.requires.tables.shelves now (λ other e parts h. h) })
 
 -- the same of a status
 module _ (c : goal.After-self-in-Status-2-1) where
@@ -51,13 +48,11 @@ module _ (c : goal.After-self-in-Status-2-1) where
 
 pub returns-in-Ok-entry-2-clause-ok : goal.returns-in-Ok-entry-2-clause-ok
 returns-in-Ok-entry-2-clause-ok c = let form = status-form c.in-Status.key (get_or c.args.log.now c.args.place no_entry).item (own c) in
-    on_map c.add_status.result c.add_status.ensures.ok (λ now. tables-follow c.args.log.now c.args.place c.requires.last c.args.self.now _ c.in-Status.key.gtin c.add_status.new.self form.2 c.requires.tables refl
-    (stops-at c.args.log.now c.args.place c.requires.last c.args.self.now.stops form.1 c.requires.tables.stops) (shelved-own c) now (status-away c.args.log.now c.args.place c.in-Status.key c.requires.last (own c))
+    on_map c.add_status.result c.add_status.ensures.ok (λ now. tables-follow c.args.log.now c.args.place c.requires.last c.args.self.now _ c.in-Status.key.gtin c.add_status.new.self form.2 c.requires.tables refl (stops-at c.args.log.now c.args.place c.requires.last c.args.self.now.stops form.1 c.requires.tables.stops) (shelved-own c) now (status-away c.args.log.now c.args.place c.in-Status.key c.requires.last (own c))
     (few-at c.args.log.now c.args.place c.requires.last form.3 (omega arith) c.requires.tables.few))
 
 pub returns-in-Ok-entry-2-clause-err : goal.returns-in-Ok-entry-2-clause-err
-returns-in-Ok-entry-2-clause-err c = let before = take c.args.place c.args.log.now in
-    map_err c.add_status.result c.add_status.ensures.err (λ now. record { masters = c.requires.tables.masters; stops = c.requires.tables.stops; few = c.requires.tables.few; shelves = shelves-follow c.args.self.now.shelves.entries _ c.in-Status.key.gtin c.add_status.new.self (shelved-own c) before before c.requires.tables.shelves now (λ other e parts h. h) })
+returns-in-Ok-entry-2-clause-err c = let before = take c.args.place c.args.log.now in map_err c.add_status.result c.add_status.ensures.err (λ now. record { masters = c.requires.tables.masters; stops = c.requires.tables.stops; few = c.requires.tables.few; shelves = shelves-follow c.args.self.now.shelves.entries _ c.in-Status.key.gtin c.add_status.new.self (shelved-own c) before before c.requires.tables.shelves now (λ other e parts h. h) })
 
 pub returns-in_default-clause-ok : goal.returns-in_default-clause-ok
 returns-in_default-clause-ok c =

@@ -28,7 +28,7 @@ pub(crate) enum Counted {
 /// Works out again the track of a number, where there is one.
 fn refresh_track(tracks: &mut Vec<Track>, newest: &Newest<'_>, gtin: &Gtin, number: usize)
     ensures count { length tracks.new.items ≡ length tracks.old.items }
-    ensures tracks { (other : ℕ) → IsRefreshed newest.now.log.now (stops_in newest.now.log.now newest.now.stops.now) gtin.now (number == other)
+    ensures tracks { (other : ℕ) → IsRefreshed newest.now.log.now (stops_in newest.now.log.now newest.now.stops.now) gtin.now (other == number)
         (get_or tracks.old.items other nothing_kept) (get_or tracks.new.items other nothing_kept) }
 {
     if let Some(track) = tracks.get_mut(number) {

@@ -31,18 +31,15 @@ IsNoted item = NoPack item × StopsNone item × NoMaster item
 pub none-noted : (item : Item) → message_in item ≡ None → IsNoted item
 none-noted item e = grind (arith, nat_tests)
 
-pub other-noted : (item : Item) (m : Message) → message_in item ≡ Some m → ((gtin : List ℕ) (product : Product) → m ≡ Master gtin product → ⊥)
-    → ((gtin batch : List ℕ) (expiry : CivilDate) (national : Option (List ℕ)) (serials : List (List ℕ)) → m ≡ Upload gtin batch expiry national serials → ⊥)
-    → ((key : PackKey) (to : Standing) (user : List ℕ) (at : ℕ) → m ≡ Status key to user at → ⊥)
-    → ((key : BatchKey) (at : ℕ) → m ≡ Recall key at → ⊥) → ((gtin : List ℕ) (at : ℕ) → m ≡ Withdraw gtin at → ⊥) → IsNoted item
+pub other-noted : (item : Item) (m : Message) → message_in item ≡ Some m → ((gtin : List ℕ) (product : Product) → m ≡ Master gtin product → ⊥) → ((gtin batch : List ℕ) (expiry : CivilDate) (national : Option (List ℕ)) (serials : List (List ℕ)) → m ≡ Upload gtin batch expiry national serials → ⊥)
+    → ((key : PackKey) (to : Standing) (user : List ℕ) (at : ℕ) → m ≡ Status key to user at → ⊥) → ((key : BatchKey) (at : ℕ) → m ≡ Recall key at → ⊥) → ((gtin : List ℕ) (at : ℕ) → m ≡ Withdraw gtin at → ⊥) → IsNoted item
 other-noted item m is a b c d e = grind (arith, nat_tests)
 
 -- an item by the message that it carries: a master, an upload of these packs, and a status of a pack
 pub master-in : (item : Item) (m : Message) (gtin : List ℕ) (product : Product) → Some m ≡ message_in item → m ≡ Master gtin product → is_master gtin item ≡ true
 master-in item m gtin product e is = grind (arith, nat_tests, text-self gtin)
 
-pub upload-in : (item : Item) (m : Message) (gtin batch : List ℕ) (expiry : CivilDate) (national : Option (List ℕ)) (named serials : List (List ℕ))
-    → Some m ≡ message_in item → m ≡ Upload gtin batch expiry national named → serials ≡ named → IsUploadOf item gtin serials
+pub upload-in : (item : Item) (m : Message) (gtin batch : List ℕ) (expiry : CivilDate) (national : Option (List ℕ)) (named serials : List (List ℕ)) → Some m ≡ message_in item → m ≡ Upload gtin batch expiry national named → serials ≡ named → IsUploadOf item gtin serials
 upload-in item m gtin batch expiry national named serials e is same = grind (arith, nat_tests)
 
 pub status-in : (item : Item) (m : Message) (key : PackKey) (to : Standing) (user : List ℕ) (at : ℕ) → Some m ≡ message_in item → m ≡ Status key to user at → is_status_of key item ≡ true
@@ -66,8 +63,7 @@ module _ (whole : List LogEntry) (place : ℕ) (l : length whole ≡ place + 1) 
   same-at none = at-newest whole place l (λ w n. first_stops (ordered w) ≡ first_stops (ordered log)) (first-same log entry none)
 
   -- what is kept of packs, where the entry names none and the first stops are as they were
-  pub shelves-at : (shelves : List (List ℕ × ShelfParts)) → NoPack entry.item → first_stops (ordered whole) ≡ first_stops (ordered log)
-      → ((gtin : List ℕ) → AreShelfOf log gtin (shelf_of gtin shelves)) → (gtin : List ℕ) → AreShelfOf whole gtin (shelf_of gtin shelves)
+  pub shelves-at : (shelves : List (List ℕ × ShelfParts)) → NoPack entry.item → first_stops (ordered whole) ≡ first_stops (ordered log) → ((gtin : List ℕ) → AreShelfOf log gtin (shelf_of gtin shelves)) → (gtin : List ℕ) → AreShelfOf whole gtin (shelf_of gtin shelves)
   shelves-at shelves none same are gtin = let split = log-split whole place l in
       shelf-kept whole place gtin (shelf_of gtin shelves) ((λ serial. grind (arith, nat_tests, life-same, none.0)), serials-at whole place gtin [] l (none.2 gtin)) (are gtin)
 
@@ -82,8 +78,7 @@ module _ (whole : List LogEntry) (place : ℕ) (l : length whole ≡ place + 1) 
   few-at none = few-more (omega (arith, ap length none))
 
   -- the tables, where the entry is a master
-  pub tables-mastered : (old new : Tables) (gtin : List ℕ) → is_master gtin entry.item ≡ true → AreTablesOf log old → AreMastersOf whole new.masters.entries
-      → new.stops ≡ old.stops → new.shelves ≡ old.shelves → place < 4294967296 → AreTablesOf whole new
+  pub tables-mastered : (old new : Tables) (gtin : List ℕ) → is_master gtin entry.item ≡ true → AreTablesOf log old → AreMastersOf whole new.masters.entries → new.stops ≡ old.stops → new.shelves ≡ old.shelves → place < 4294967296 → AreTablesOf whole new
   tables-mastered old new gtin own are masters stops shelves fits = let form = master-form gtin entry.item own in record {
     masters = masters;
     stops = subst (AreStopsOf whole) (sym stops) (stops-at old.stops form.1 are.stops);

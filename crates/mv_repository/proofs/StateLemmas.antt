@@ -14,8 +14,7 @@ at_behind z y [] rest h = h.0
 at_behind z y (x ∷ xs) rest h = at_behind z y xs rest h.1
 
 -- in the order of stamps one of a kind stands before an entry where the first of the kind does
-pub first-before : (f : Placed → Bool) (before : List Placed) (y : Placed) (rest : List Placed) → Ascends (before ++ y ∷ rest)
-    → list_any f before ≡ is_before (find f (before ++ y ∷ rest)) y
+pub first-before : (f : Placed → Bool) (before : List Placed) (y : Placed) (rest : List Placed) → Ascends (before ++ y ∷ rest) → list_any f before ≡ is_before (find f (before ++ y ∷ rest)) y
 first-before f [] y rest a = grind (arith, nat_tests, not_before)
 first-before f (z ∷ zs) y rest a = grind (arith, nat_tests, first-before f zs y rest a.1, at_behind)
 
@@ -26,8 +25,7 @@ next stops pack known x = pack_after_item (standing_at stops x) x.place x.entry.
 batch-stands : (before : List Placed) (x : Placed) (rest : List Placed) → Ascends (before ++ x ∷ rest) → batch_standing before ≡ standing_at (first_stops (before ++ x ∷ rest)) x
 batch-stands before x rest a = λ i batch. record { recalled = first-before (λ y. is_recall_of batch y.entry.item) before x rest a i; withdrawn = first-before (λ y. is_withdrawal_of batch.gtin y.entry.item) before x rest a i }
 
-state-fold : (all before rest : List Placed) (pack : PackKey) (known : Option KnownPack) → all ≡ before ++ rest → Ascends all
-    → known_pack_from before rest pack known ≡ fold (next (first_stops all) pack) known rest
+state-fold : (all before rest : List Placed) (pack : PackKey) (known : Option KnownPack) → all ≡ before ++ rest → Ascends all → known_pack_from before rest pack known ≡ fold (next (first_stops all) pack) known rest
 state-fold all before [] pack known e a = refl
 state-fold all before (x ∷ xs) pack known e a =
     state-fold all (before ++ x ∷ []) xs pack (pack_after_item (batch_standing before) x.place x.entry.sender x.entry.item pack known) (e ∙ sym (append_assoc before (x ∷ []) xs)) a
@@ -43,20 +41,17 @@ next-tests : (stops : FirstStops) (pack : PackKey) (known : Option KnownPack) (x
 next-tests stops pack known x = grind (arith, nat_tests)
 
 -- a pack that is held goes by its statuses
-fold-held : (stops : FirstStops) (pack : PackKey) (held : KnownPack) (xs : List Placed)
-    → fold (next stops pack) (Some held) xs ≡ Some (fold (turn stops pack) held (statuses_of pack xs))
+fold-held : (stops : FirstStops) (pack : PackKey) (held : KnownPack) (xs : List Placed) → fold (next stops pack) (Some held) xs ≡ Some (fold (turn stops pack) held (statuses_of pack xs))
 fold-held stops pack held [] = refl
 fold-held stops pack held (x ∷ xs) = grind (arith, nat_tests, fold-held stops pack held xs, fold-held stops pack (turn stops pack held x) xs, next-tests)
 
 -- behind its upload, each status counts
-fold-behind : (stops : FirstStops) (pack : PackKey) (birth : Placed) (held : KnownPack) (xs : List Placed) → StandsBeforeAll birth xs
-    → fold (pack_step stops pack birth) held (statuses_of pack xs) ≡ fold (turn stops pack) held (statuses_of pack xs)
+fold-behind : (stops : FirstStops) (pack : PackKey) (birth : Placed) (held : KnownPack) (xs : List Placed) → StandsBeforeAll birth xs → fold (pack_step stops pack birth) held (statuses_of pack xs) ≡ fold (turn stops pack) held (statuses_of pack xs)
 fold-behind stops pack birth held [] h = refl
 fold-behind stops pack birth held (x ∷ xs) h = grind (arith, nat_tests, fold-behind stops pack birth (turn stops pack held x) xs h.1, fold-behind stops pack birth held xs h.1)
 
 -- a status in front of the first upload doesn't count
-grown-early : (stops : FirstStops) (pack : PackKey) (f : Placed → Bool) (x : Placed) (own xs : List Placed) → StandsBeforeAll x xs
-    → pack_grown stops pack (find f xs) (x ∷ own) ≡ pack_grown stops pack (find f xs) own
+grown-early : (stops : FirstStops) (pack : PackKey) (f : Placed → Bool) (x : Placed) (own xs : List Placed) → StandsBeforeAll x xs → pack_grown stops pack (find f xs) (x ∷ own) ≡ pack_grown stops pack (find f xs) own
 grown-early stops pack f x own [] h = refl
 grown-early stops pack f x own (y ∷ ys) h = grind (arith, nat_tests, grown-early stops pack f x own ys h.1)
 

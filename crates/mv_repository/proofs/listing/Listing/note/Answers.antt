@@ -5,8 +5,7 @@ use Rattle.mv_repository.proofs.listing.Listing.note.Goals as goal
 
 -- a set is written under a batch, which has all that was there, and a number
 stays-in : {S : Type 0} → (old new left : List (List ℕ × HashSet ℕ S)) (batch : List ℕ) (kept : Option (HashSet ℕ S)) (fresh was now : HashSet ℕ S) (number : ℕ) → ((other : List ℕ) → lookup (bytes_eq other) new ≡ cond (bytes_eq batch other) (Some now) (lookup (bytes_eq other) old)) → left ≡ new
-    → kept ≡ lookup (bytes_eq batch) old → was ≡ unwrap_or kept fresh → ((one : ℕ) → list_any (λ k. one == k) now.keys ≡ cond (number == one) true (list_any (λ k. one == k) was.keys))
-    → (other : List ℕ) (one : ℕ) → is_in old other one ≡ true → is_in left other one ≡ true
+    → kept ≡ lookup (bytes_eq batch) old → was ≡ unwrap_or kept fresh → ((one : ℕ) → list_any (λ k. one == k) now.keys ≡ cond (number == one) true (list_any (λ k. one == k) was.keys)) → (other : List ℕ) (one : ℕ) → is_in old other one ≡ true → is_in left other one ≡ true
 stays-in old new left batch kept fresh was now number looks same there is more other one h = grind (arith, nat_tests, looks other, more one, same_text batch other)
 
 -- so the listing has all that it had

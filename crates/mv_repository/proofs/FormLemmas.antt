@@ -1,5 +1,5 @@
 -- What the tables are after one more entry, by its form.
-use Rattle.mv_repository.proofs.Words.{◌≡◌, ◌≤◌, ◌<◌, ◌*◌, ap, ◌+◌, ℕ, List, bytes_eq, false, length, subst, sym, get_or, take, true, Option, None, Some, Result, OnOk, OnErr, [], Item, Message, Master, Upload, Status, Recall, Withdraw, Product, Standing, CivilDate, BatchKey, PackKey, LogEntry, uploaded_in, uploaded_packs, is_master, is_status_of, IsUploadOf, ordered, AreShelfOf, ShelfParts, shelf_of, Stops, first_stops, no_entry, message_in, AreStopsOf, AreTablesOf, Tables, arith, nat_tests, common_steps}
+use Rattle.mv_repository.proofs.Words.{◌≡◌, ◌≤◌, ◌<◌, ◌*◌, ap, ◌+◌, ℕ, List, bytes_eq, false, length, subst, sym, get_or, take, true, Option, None, Some, Result, OnOk, OnErr, [], Item, Message, Master, Upload, Status, Recall, Withdraw, Product, Standing, CivilDate, BatchKey, PackKey, LogEntry, uploaded_in, uploaded_packs, is_master, is_status_of, IsUploadOf, ordered, AreShelfOf, ShelfParts, shelf_of, Stops, first_stops, no_entry, message_in, AreStopsOf, AreTablesOf, Tables, arith, nat_tests}
 use Rattle.mv_repository.proofs.KeptLemmas.{pack-self, text-self}
 use Rattle.mv_repository.proofs.ProductLemmas.{masters-noted}
 use Rattle.mv_repository.proofs.SerialLemmas.{AreSamePacks, IsShelved, serials-at, shelf-kept, shelves-follow}

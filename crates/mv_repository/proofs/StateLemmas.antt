@@ -1,8 +1,7 @@
 -- What a pack is depends on its own entries, the first recall of its batch and the first withdrawal of its product. What `next` gives
 -- is one step of it, so the place of one entry is all that has to be kept. The change of a pack names its status.
-use Rattle.mv_repository.proofs.Words.{◌≡◌, ◌∷◌, ◌++◌, List, [], refl, sym, ◌∙◌, ap, subst, append_assoc, Bool, true, false, cond, Option, Some, None, IfSome, find, fold, map, get_or, list_any, option_or, option_map, PackKey, LogEntry, Placed, stands_before, Ascends, KnownPack, batch_standing, pack_after_item, known_pack_from, known_pack, pack_made_by, FirstStops, first_stops, is_before, standing_at, entry_at, place_of, no_entry, is_upload_of, is_status_of, is_recall_of, is_withdrawal_of, first_upload, statuses_of, pack_changed, pack_step, pack_grown, arith, nat_tests, ◌%◌, ℕ, AllByRecursion, BatchKey, Item, PartySet, has_party, PARTIES_LIMIT, IsCovered, BatchStanding, Standing, is_active, is_done, change_in, known_at, rules, effect_from, message_in, next_by, next_place, slice_get, Upload, Status, Carried, ordered, NamesStatus, ChangeNamesStatus, standing_of}
+use Rattle.mv_repository.proofs.Words.{◌≡◌, ◌∷◌, ◌++◌, List, [], refl, sym, ◌∙◌, ap, subst, append_assoc, Bool, true, false, cond, Option, Some, None, IfSome, find, fold, map, get_or, list_any, option_or, option_map, PackKey, LogEntry, Placed, stands_before, Ascends, KnownPack, batch_standing, pack_after_item, known_pack_from, known_pack, pack_made_by, FirstStops, first_stops, is_before, standing_at, entry_at, place_of, no_entry, is_upload_of, is_status_of, is_recall_of, is_withdrawal_of, first_upload, statuses_of, pack_changed, pack_step, pack_grown, arith, nat_tests, ◌%◌, ℕ, AllByRecursion, BatchKey, Item, PartySet, has_party, PARTIES_LIMIT, IsCovered, BatchStanding, Standing, is_active, is_done, change_in, known_at, rules, effect_from, message_in, next_by, next_place, slice_get, Status, Carried, ordered, NamesStatus, ChangeNamesStatus, standing_of}
 use Rattle.mv_repository.proofs.OrderLemmas.{StandsBeforeAll, Stand, find-all, AreOf, ordered-of}
-use Rattle.mv_repository.specs.declared.effect.Effect.TheVariants as effects
 
 -- what is found behind y doesn't stand before it
 not_before : (f : Placed → Bool) (y : Placed) (xs : List Placed) → StandsBeforeAll y xs → is_before (find f xs) y ≡ false

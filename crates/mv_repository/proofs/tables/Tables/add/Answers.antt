@@ -1,5 +1,5 @@
 -- Each form of entry bears on one table; an upload and a status bear on the shelf of one product.
-use Rattle.mv_repository.proofs.Lemmas.{◌≡◌, IsShelved, rules, get_or, take, no_entry, arith, none-noted, other-noted, few-at, few-more, masters-at, stops-at, tables-mastered, comes_late, masters-late-at, masters-latest-at, lookup, bytes_eq, false, unwrap_or, ◌∙◌, master-in, shelf-written, upload-in, status-in, sym, tables-follow, tables-noted, refl, IsUploadOf, is_status_of, true, on_both, on_map, map_err, upload-away, upload-form, status-away, status-form, subst, AreShelfOf, shelves-follow, named-upload}
+use Rattle.mv_repository.proofs.Lemmas.{◌≡◌, IsShelved, rules, get_or, take, no_entry, arith, none-noted, other-noted, few-at, few-more, stops-at, tables-mastered, comes_late, masters-late-at, masters-latest-at, lookup, bytes_eq, false, unwrap_or, ◌∙◌, master-in, shelf-written, upload-in, status-in, sym, tables-follow, tables-noted, refl, IsUploadOf, is_status_of, true, on_both, on_map, map_err, upload-away, upload-form, status-away, status-form, subst, AreShelfOf, shelves-follow, named-upload}
 use Rattle.mv_repository.proofs.tables.Tables.add.Goals as goal
 
 pub returns-then-matches-clause-ok : goal.returns-then-matches-clause-ok

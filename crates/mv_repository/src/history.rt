@@ -130,10 +130,7 @@ impl<'a> History<'a> {
     pub fn withdrawal(&self) -> Option<&'a LogEntry>
         ensures { option_copied result ≡ option_map entry_of self.now.withdrawal }
     {
-        match self.places.withdrawal {
-            Some(place) => self.places.log.get(place as usize),
-            None => None,
-        }
+        self.places.log.get(self.places.withdrawal? as usize)
     }
 
     /// Whether two histories are the same: what decides the packs was sent alike, and each status stands alike behind the

@@ -25,12 +25,18 @@ pub struct Inquiry {
 }
 
 /// What a repository knows of the queries of its own party.
-#[derive(Drop)]
 pub struct Inquiries {
     /// What is known of each query, by its number among the messages of the party.
     pub(crate) inquiries: IndexMap<u32, Inquiry>,
     /// Which query was answered, by its number, and by which party.
     pub(crate) replies: IndexSet<(u32, Party)>,
+}
+
+// Written here, so that the drop of a repository proves nothing of how these tables are dropped.
+impl Drop for Inquiries {
+    fn drop(self) {
+        let Self { inquiries, replies } = self;
+    }
 }
 
 impl Inquiries {

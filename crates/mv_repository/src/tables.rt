@@ -14,6 +14,7 @@ use mv_pack::Gtin;
 use std::alloc::{AllocError, Global};
 
 /// What is found in a log without a search.
+#[derive(Drop)]
 pub struct Tables {
     /// What memory is got from.
     pub(crate) alloc: Global,
@@ -23,18 +24,6 @@ pub struct Tables {
     pub(crate) stops: Stops,
     /// What is kept of the packs of each product.
     pub(crate) shelves: IndexMap<Gtin, Shelf>,
-}
-
-// Written here, so that the drop of a repository proves nothing of how its tables are dropped.
-impl Drop for Tables {
-    fn drop(self) {
-        let Self {
-            alloc: _,
-            masters: _,
-            stops: _,
-            shelves: _,
-        } = self;
-    }
 }
 
 impl Tables {

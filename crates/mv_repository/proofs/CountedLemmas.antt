@@ -1,5 +1,5 @@
 -- What is kept of a pack says what it is, and whether it is active; and how many packs of a table are counted.
-use Rattle.mv_repository.proofs.Words.{count_by-le-length, length-filter, All-contains_itself, recursion_from_All, AllByRecursion, AreSlots, AreTablesOf, keyed, length-append, length-keys_of, shelf_by, subst, ◌+◌, Bool, Counted, IsDistinct, IsDistinct-head, IsDistinct-keys_filter, IsDistinct-tail, IsEquivalence, Kept, List, LogEntry, None, Option, PackKey, ShelfParts, Slot, Some, Tables, [], ap, arith, bytes_eq, cond, distinct_count, distinct_count-le, false, filter, filter-append, flat_map, get_or, is_counted, is_member, is_member-filter, is_same_pack, is_some, is_some-lookup, kept_by, kept_in, keys_of, length, length-from_keys, lookup, lookup-filter-values, map, min, nat_list_eq_equiv, nat_tests, no_shelf, nothing_kept, option_filter, option_map, option_or, pack_key, refl, rules, same_text, serial_of, shelf_of, sym, kept_of, life_of, true, unwrap_or, uploaded_packs, ℕ, ◌&&◌, ◌++◌, ◌-◌, ◌<◌, ◌^◌, ◌∙◌, ◌∷◌, ◌≡◌, absent_from_lookup, ◌==◌, ◌⊎◌, cond_both, IfSome, fold, inl, inr, option_map_or, Held, Placed, ordered, is_active, is_done, pack_state, held_of, known_at, effect_on, next_by, FirstStops, first_stops, place_of, no_entry, is_upload_of, is_status_of, statuses_of, pack_grown, option_and_then, Active, entry_at, message_in, standing_of}
+use Rattle.mv_repository.proofs.Words.{count_by-le-length, length-filter, All-contains_itself, recursion_from_All, AllByRecursion, AreSlots, AreTablesOf, keyed, length-append, length-keys_of, shelf_by, subst, ◌+◌, Bool, Counted, IsDistinct, IsDistinct-head, IsDistinct-keys_filter, IsDistinct-tail, IsEquivalence, Kept, List, LogEntry, None, Option, PackKey, ShelfParts, Slot, Some, Tables, [], ap, arith, bytes_eq, cond, distinct_count, distinct_count-le, false, filter, filter-append, flat_map, get_or, is_counted, is_member, is_member-filter, is_same_pack, is_some, is_some-lookup, kept_by, kept_in, keys_of, length, length-from_keys, lookup, lookup-filter-values, map, min, nat_list_eq_equiv, nat_tests, no_shelf, nothing_kept, option_filter, option_map, option_or, pack_key, refl, rules, same_text, serial_of, shelf_of, sym, kept_of, life_of, true, unwrap_or, uploaded_packs, ℕ, ◌&&◌, ◌++◌, ◌-◌, ◌^◌, ◌∙◌, ◌∷◌, ◌≡◌, absent_from_lookup, ◌==◌, ◌⊎◌, cond_both, IfSome, fold, inl, inr, option_map_or, Held, Placed, ordered, is_active, is_done, pack_state, held_of, known_at, effect_on, next_by, FirstStops, first_stops, place_of, no_entry, is_upload_of, is_status_of, statuses_of, pack_grown, option_and_then, Active, entry_at, message_in, standing_of}
 use Rattle.mv_repository.proofs.KeptLemmas.{same_pack, pack-self, pack-sym}
 use Rattle.mv_repository.proofs.UploadedLemmas.{uploaded-found}
 use Rattle.std.proofs.lemmas.Map.Views.{lookup-from_Contains}
@@ -127,9 +127,9 @@ module _ (log : List LogEntry) where
 
     -- and no more than 64 bits hold
     pub counted-whole : (tables : Tables) (count : ℕ) → AreTablesOf log tables → IsDistinct bytes_eq (keys_of tables.shelves.entries)
-        → tables.named < 2 ^ 64 → count ≡ min (slots_in counted tables.shelves.entries) (2 ^ 64 - 1)
+        → count ≡ min (slots_in counted tables.shelves.entries) (2 ^ 64 - 1)
         → count ≡ distinct_count is_same_pack (filter (λ pack. is_counted counted (kept_of (life_of pack log))) (uploaded_packs log))
-    counted-whole tables count are d fits e = grind (arith, nat_tests, all-counted, count_by-le-length, distinct_count-le, length-filter)
+    counted-whole tables count are d e = grind (arith, nat_tests, are.few.0, are.few.1, all-counted, count_by-le-length, distinct_count-le, length-filter)
 
 -- the packs that are held are those that the log names
 pub held-all : (log : List LogEntry)

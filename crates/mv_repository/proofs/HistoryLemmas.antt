@@ -1,14 +1,13 @@
 -- What decides a pack in a log: two logs agree on the pack that have the same of it, or the same about it, or distinct stamps and the same
 -- messages. And the places that the tables keep of a pack are those of its history.
-use Rattle.mv_repository.proofs.Words.{◌≡◌, ◌∷◌, ℕ, Bool, false, find, list_any, List, [], refl, sym, ◌∙◌, ap, cond, Option, Some, None, is_some, fold, map, option_map, option_and_then, PackKey, BatchKey, batch_key, Item, Receipt, Carried, LogEntry, BatchStanding, Placed, ordered, KnownPack, known_pack, is_recall_of, is_withdrawal_of, Sent, sent_in, unplaced, is_batch_recalled, AgreeOn, made_batch, entry_of, pack_made_by, FirstStops, first_stops, standing_at, first_upload, statuses_of, pack_changed, pack_step, pack_grown, SentHistory, sent_of, history_of, PackHistory, sent_status, HaveSameHistory, arith, nat_tests, batch_in, ◌++◌, ◌<◌, suc, zero, nat_eq, get_or, length, subst, cond_both, All-contains, All-from_recursion, AllByRecursion, IsDistinct, HasDistinctStamps, HaveSameAbout, HaveSameEntries, Contains, cons_option, passes, put_in, Ascends, IsPermutation, IsPermutation-cons, IsPermutation-middle, IsPermutation-trans, true, true≢false, filter, append-nil, filter-append, list_any-append, IfSome, option_map_or, option_or, filter_map, bears_on, about, known_pack_from, pack_after_item, batch_standing, held_of, is_recalled_by, is_withdrawn_by, is_status_of, is_upload_of, map-append, All-contains_itself, filter_map-append, recursion_from_All, All-permutation, IsPermutation-refl, IsPermutation-sym, IsPermutation-to_front, IsDistinct-IsPermutation, AllPairs, bytes_eq, lookup, is_same_batch, AreAt, Held, pack_state, Stops, AreStopsOf, entry_at, kept_of, life_of}
+use Rattle.mv_repository.proofs.Words.{◌≡◌, ◌∷◌, Message, rules, ℕ, Bool, false, find, list_any, List, [], refl, sym, ◌∙◌, ap, cond, Option, Some, None, is_some, fold, map, option_map, option_and_then, PackKey, BatchKey, batch_key, Item, Receipt, Carried, LogEntry, BatchStanding, Placed, ordered, KnownPack, known_pack, is_recall_of, is_withdrawal_of, Sent, sent_in, unplaced, is_batch_recalled, AgreeOn, made_batch, entry_of, pack_made_by, FirstStops, first_stops, standing_at, first_upload, statuses_of, pack_changed, pack_step, pack_grown, SentHistory, sent_of, history_of, PackHistory, sent_status, HaveSameHistory, arith, nat_tests, batch_in, ◌++◌, ◌<◌, suc, zero, nat_eq, get_or, length, subst, cond_both, All-contains, All-from_recursion, AllByRecursion, IsDistinct, HasDistinctStamps, HaveSameAbout, HaveSameEntries, Contains, cons_option, passes, put_in, Ascends, IsPermutation, IsPermutation-cons, IsPermutation-middle, IsPermutation-trans, true, true≢false, filter, append-nil, filter-append, list_any-append, IfSome, option_map_or, option_or, filter_map, bears_on, about, known_pack_from, pack_after_item, batch_standing, held_of, is_recalled_by, is_withdrawn_by, is_status_of, is_upload_of, map-append, All-contains_itself, filter_map-append, recursion_from_All, All-permutation, IsPermutation-refl, IsPermutation-sym, IsPermutation-to_front, IsDistinct-IsPermutation, AllPairs, bytes_eq, lookup, is_same_batch, AreAt, Held, pack_state, Stops, AreStopsOf, entry_at, kept_of, life_of}
 use Rattle.mv_repository.proofs.OrderLemmas.{ordered-ascends, by_entries, ordered-push, placed_at, StandsBeforeAll, ordered-of, ordered-stand, filter-all, find-all, order_of}
 use Rattle.mv_repository.proofs.StateLemmas.{known-grown, find-stands, map-stands}
 use Rattle.mv_repository.proofs.TableLemmas.{filter-stand}
 use Rattle.std.proofs.lemmas.List.Kept.{AllPairs-cons, AllPairs-filter}
 
 -- no status changes the batch
-changed-batch : (standing : BatchKey → BatchStanding) (place sender : ℕ) (item : Item) (pack : PackKey) (held : KnownPack)
-    → (pack_changed standing place sender item pack held).batch ≡ held.batch
+changed-batch : (standing : BatchKey → BatchStanding) (place sender : ℕ) (item : Item) (pack : PackKey) (held : KnownPack) → (pack_changed standing place sender item pack held).batch ≡ held.batch
 changed-batch standing place sender item pack held = grind (arith, nat_tests)
 
 fold-batch : (stops : FirstStops) (pack : PackKey) (birth : Placed) (held : KnownPack) (xs : List Placed) → (fold (pack_step stops pack birth) held xs).batch ≡ held.batch
@@ -24,8 +23,7 @@ abbrev changed_of : PackKey → (BatchKey → BatchStanding) → KnownPack → O
 changed_of pack standing held None = held
 changed_of pack standing held (Some sent) = pack_changed standing 0 sent.sender (Carried 0 sent.stamp sent.message) pack held
 
-changed-sent : (standing standing' : BatchKey → BatchStanding) (place sender : ℕ) (item : Item) (pack : PackKey) (held : KnownPack)
-    → standing (batch_key pack.gtin held.batch) ≡ standing' (batch_key pack.gtin held.batch)
+changed-sent : (standing standing' : BatchKey → BatchStanding) (place sender : ℕ) (item : Item) (pack : PackKey) (held : KnownPack) → standing (batch_key pack.gtin held.batch) ≡ standing' (batch_key pack.gtin held.batch)
     → unplaced (pack_changed standing place sender item pack held) ≡ changed_of pack standing' (unplaced held) (sent_in sender item)
 changed-sent standing standing' place sender item pack held e = grind (arith, nat_tests)
 
@@ -40,16 +38,14 @@ module _ (pack : PackKey) (stops stops' : FirstStops) where
   }
 
   -- two statuses that were sent alike, and stand alike behind what decides the pack, do the same to it
-  same-step : (birth birth' : Placed) (held held' : KnownPack) (x y : Placed) → unplaced held ≡ unplaced held'
-      → sent_status (decided stops (Some birth) (Some held.batch)) x ≡ sent_status (decided stops' (Some birth') (Some held'.batch)) y
+  same-step : (birth birth' : Placed) (held held' : KnownPack) (x y : Placed) → unplaced held ≡ unplaced held' → sent_status (decided stops (Some birth) (Some held.batch)) x ≡ sent_status (decided stops' (Some birth') (Some held'.batch)) y
       → unplaced (pack_step stops pack birth held x) ≡ unplaced (pack_step stops' pack birth' held' y)
   same-step birth birth' held held' x y e f =
       let turned = changed-sent (standing_at stops x) (standing_at stops' y) x.place x.entry.sender x.entry.item pack held in
       let turned' = changed-sent (standing_at stops' y) (standing_at stops' y) y.place y.entry.sender y.entry.item pack held' refl in
       grind (arith, nat_tests, turned, turned')
 
-  same-fold : (birth birth' : Placed) (held held' : KnownPack) (xs ys : List Placed) → unplaced held ≡ unplaced held'
-      → map (sent_status (decided stops (Some birth) (Some held.batch))) xs ≡ map (sent_status (decided stops' (Some birth') (Some held'.batch))) ys
+  same-fold : (birth birth' : Placed) (held held' : KnownPack) (xs ys : List Placed) → unplaced held ≡ unplaced held' → map (sent_status (decided stops (Some birth) (Some held.batch))) xs ≡ map (sent_status (decided stops' (Some birth') (Some held'.batch))) ys
       → unplaced (fold (pack_step stops pack birth) held xs) ≡ unplaced (fold (pack_step stops' pack birth') held' ys)
   same-fold birth birth' held held' [] [] e f = e
   same-fold birth birth' held held' [] (y ∷ ys) e f = absurd (cc)
@@ -57,9 +53,7 @@ module _ (pack : PackKey) (stops stops' : FirstStops) where
   same-fold birth birth' held held' (x ∷ xs) (y ∷ ys) e f =
       grind (arith, nat_tests, same-fold birth birth' (pack_step stops pack birth held x) (pack_step stops' pack birth' held' y) xs ys, changed-batch, same-step)
 
-  same-grown : (upload upload' : Option Placed) (batch batch' : Option (List ℕ)) (own own' : List Placed)
-      → batch ≡ option_and_then made_batch upload → batch' ≡ option_and_then made_batch upload'
-      → option_and_then sent_of upload ≡ option_and_then sent_of upload'
+  same-grown : (upload upload' : Option Placed) (batch batch' : Option (List ℕ)) (own own' : List Placed) → batch ≡ option_and_then made_batch upload → batch' ≡ option_and_then made_batch upload' → option_and_then sent_of upload ≡ option_and_then sent_of upload'
       → map (sent_status (decided stops upload batch)) own ≡ map (sent_status (decided stops' upload' batch')) own'
       → option_map unplaced (pack_grown stops pack upload own) ≡ option_map unplaced (pack_grown stops' pack upload' own')
   same-grown upload upload' batch batch' own own' b c e f = grind (arith, nat_tests, same-fold)
@@ -117,6 +111,16 @@ module _ (pack : PackKey) where
       let later = batch-stays (before ++ x ∷ []) xs (pack_after_item (batch_standing before) x.place x.entry.sender x.entry.item pack known) in
       grind (arith, nat_tests, after-tests, changed-batch, later)
 
+  -- a message does to the pack what it does at whatever place; one that does not bear on the pack does nothing
+  turned-told : (standing standing' : BatchKey → BatchStanding) (place sender k stamp : ℕ) (message : Message) (known : Option KnownPack)
+      → ((held : KnownPack) → known ≡ Some held → standing (batch_key pack.gtin held.batch) ≡ standing' (batch_key pack.gtin held.batch))
+      → option_map unplaced (pack_after_item standing place sender (Carried k stamp message) pack known) ≡ pack_after_item standing' 0 sender (Carried 0 stamp message) pack (option_map unplaced known)
+  turned-told standing standing' place sender k stamp message known same = grind (arith, nat_tests, after-tests standing place sender (Carried k stamp message) known, after-tests standing' 0 sender (Carried 0 stamp message) (option_map unplaced known), changed-sent standing standing' place sender (Carried k stamp message) pack)
+
+  away-told : (standing : BatchKey → BatchStanding) (place sender k stamp : ℕ) (message : Message) (known : Option KnownPack) (batch : Option (List ℕ)) → bears_on pack batch message ≡ false
+      → pack_after_item standing place sender (Carried k stamp message) pack known ≡ known
+  away-told standing place sender k stamp message known batch e = search rules
+
   module _ (kept : Sent → Bool) where
     -- those of their messages that are kept, each as an entry at no place
     abbrev told : List Placed → List Placed
@@ -156,10 +160,9 @@ module _ (pack : PackKey) where
     one-told before rest place sender (Carried k stamp message) known batch all same =
         let sent : Sent = record { sender = sender; stamp = stamp; message = message } in
         let more = told-append before (item_at place sender (Carried k stamp message) ∷ []) in
-        let mine = after-tests (batch_standing before) place sender (Carried k stamp message) known in
-        let theirs = after-tests (batch_standing (told before)) 0 sender (Carried 0 stamp message) (option_map unplaced known) in
-        let turned = changed-sent (batch_standing before) (batch_standing (told before)) place sender (Carried k stamp message) pack in
-        grind (arith, nat_tests, append-nil, all sent, mine, more, theirs, turned)
+        let turned = turned-told (batch_standing before) (batch_standing (told before)) place sender k stamp message known same in
+        let away = away-told (batch_standing before) place sender k stamp message known batch in
+        grind (arith, nat_tests, append-nil, all sent, more, turned, away)
 
     pack-told : (before xs : List Placed) (known : Option KnownPack) → KeepsAll (batch_of (known_pack_from before xs pack known))
         → option_map unplaced (known_pack_from before xs pack known) ≡ known_pack_from (told before) (told xs) pack (option_map unplaced known)

@@ -82,7 +82,7 @@ shelves-follow old new gtin shelf looks whole before shelves now away other = gr
 
 -- a number is in the set of a batch
 abbrev pub is_in : {S : Type 0} → List (List ℕ × HashSet ℕ S) → List ℕ → ℕ → Bool
-is_in {S} sets batch number = option_map_or (λ (set : HashSet ℕ S). list_any (λ one. one == number) set.keys) (lookup (bytes_eq batch) sets) false
+is_in {S} sets batch number = option_map_or (λ (set : HashSet ℕ S). list_any (λ one. number == one) set.keys) (lookup (bytes_eq batch) sets) false
 
 -- sets of numbers by batch, each as a list
 abbrev pub numbers_in : {S : Type 0} → List (List ℕ × HashSet ℕ S) → List (List ℕ × List ℕ)

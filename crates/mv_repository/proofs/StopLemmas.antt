@@ -1,6 +1,6 @@
 -- What a recall and a withdrawal do: their effects, the tables that find the first, and the packs on which they bear, which are worked out
 -- again, also without need.
-use Rattle.mv_repository.proofs.Words.{AreFirstsOf, AreStopsOf, BatchKey, Bool, HasFirst, IfSome, IsShelfOf, Item, List, LogEntry, Option, Own, PackKey, Placed, ShelfTable, Some, Stop, Stops, [], arith, batch_key, bytes_eq, comes_first, common_steps, effect_after, effect_of, entries_before, false, find, first_stops, first_upload, get_or, is_master, is_recall_of, is_same_batch, is_status_of, is_stop, is_upload_of, is_withdrawal_of, lasting_effect, length, life_of, list_any, lookup, may_stop, nat_tests, next_by, no_entry, not, option_map, ordered, pack_key, place_of, recalled_in, rules, same_text, stopped_product, sym, take, true, true≢false, withdrawn_in, ℕ, ◌+◌, ◌∙◌, ◌∷◌, ◌≡◌, None, refl, Slot, Made, stops_in, IsAgain, IsPackOf, IsRefreshed, AreShelfOf, shelf_by, kept_by, no_shelf, nothing_kept, IsKept, Kept, statuses_of}
+use Rattle.mv_repository.proofs.Words.{FirstStops, ap, subst, made_batch, option_and_then, AreFirstsOf, AreStopsOf, BatchKey, Bool, HasFirst, IfSome, IsShelfOf, Item, List, LogEntry, Option, Own, PackKey, Placed, ShelfTable, Some, Stop, Stops, [], arith, batch_key, bytes_eq, comes_first, common_steps, effect_after, effect_of, entries_before, false, find, first_stops, first_upload, get_or, is_master, is_recall_of, is_same_batch, is_status_of, is_stop, is_upload_of, is_withdrawal_of, lasting_effect, length, life_of, list_any, lookup, may_stop, nat_tests, next_by, no_entry, not, option_map, ordered, pack_key, place_of, recalled_in, rules, same_text, stopped_product, sym, take, true, true≢false, withdrawn_in, ℕ, ◌+◌, ◌∙◌, ◌∷◌, ◌≡◌, None, refl, Slot, Made, stops_in, IsAgain, IsPackOf, IsRefreshed, AreShelfOf, shelf_by, kept_by, no_shelf, nothing_kept, IsKept, Kept, statuses_of}
 use Rattle.mv_repository.proofs.BeforeLemmas.{any-before}
 use Rattle.mv_repository.proofs.KeptLemmas.{life_batch, same_batch, batch-self, text-self}
 use Rattle.mv_repository.proofs.OrderLemmas.{ordered-ascends, ordered-below}
@@ -20,20 +20,17 @@ first_place (stops.OfProduct gtin) tables = lookup (bytes_eq gtin.now) tables.wi
 abbrev pub NoMaster : Item → Type 0
 NoMaster item = (gtin : List ℕ) → is_master gtin item ≡ false
 
-recall-form : (key : BatchKey) (item : Item) → is_recall_of key item ≡ true
-    → ((batch : BatchKey) → is_recall_of batch item ≡ is_same_batch key batch) × ((gtin : List ℕ) → is_withdrawal_of gtin item ≡ false) × NoPack item × NoMaster item
+recall-form : (key : BatchKey) (item : Item) → is_recall_of key item ≡ true → ((batch : BatchKey) → is_recall_of batch item ≡ is_same_batch key batch) × ((gtin : List ℕ) → is_withdrawal_of gtin item ≡ false) × NoPack item × NoMaster item
 recall-form key item h1 = search rules
 
-withdrawal-form : (gtin : List ℕ) (item : Item) → is_withdrawal_of gtin item ≡ true
-    → ((code : List ℕ) → is_withdrawal_of code item ≡ bytes_eq gtin code) × ((batch : BatchKey) → is_recall_of batch item ≡ false) × NoPack item × NoMaster item
+withdrawal-form : (gtin : List ℕ) (item : Item) → is_withdrawal_of gtin item ≡ true → ((code : List ℕ) → is_withdrawal_of code item ≡ bytes_eq gtin code) × ((batch : BatchKey) → is_recall_of batch item ≡ false) × NoPack item × NoMaster item
 withdrawal-form gtin item h1 = search rules
 
 pub stop-form : (stop : Stop) (item : Item) → is_stop stop item ≡ true → NoPack item × NoMaster item
 stop-form stop item e = grind (arith, nat_tests)
 
 -- the effect of what holds for ever is by the first of its kind
-lasting : (f : Placed → Bool) (log : List LogEntry) (entry : LogEntry) (place : Option ℕ) (first : Bool) → place ≡ option_map place_of (find f (ordered log))
-    → first ≡ comes_first (longer log entry) (length log) place → lasting_effect (not first) ≡ lasting_effect (list_any f (entries_before log entry))
+lasting : (f : Placed → Bool) (log : List LogEntry) (entry : LogEntry) (place : Option ℕ) (first : Bool) → place ≡ option_map place_of (find f (ordered log)) → first ≡ comes_first (longer log entry) (length log) place → lasting_effect (not first) ≡ lasting_effect (list_any f (entries_before log entry))
 lasting f log entry place first e h = grind (arith, nat_tests, any-before f (newest log entry) (ordered log) (ordered-ascends log) (ordered-below log), first-effect)
 
 stops-so : (stop : Stop) (before : List Placed) (sender : ℕ) (item : Item) → is_stop stop item ≡ true → lasting_effect (list_any (λ placed. is_stop stop placed.entry.item) before) ≡ effect_after before sender item
@@ -69,6 +66,11 @@ stop-later log entry tables (stops.OfProduct gtin) are own e = let form = withdr
     let later = first-later bytes_eq is_withdrawal_of withdrawn_in log entry tables.withdrawals.entries gtin.now (λ other h. same_text gtin.now other (sym h)) (text-self gtin.now) are.withdrawals form.0 e in
     λ i. record { recall = λ batch. find-none (λ placed. is_recall_of batch placed.entry.item) log entry (form.1 batch) i; withdrawal = λ g. later g i }
 
+-- what a status does goes by the first recall of the batch of the pack, and the first withdrawal of its product, alone
+next-same : (stops stops' : FirstStops) (gtin : List ℕ) (birth : Option Placed) (by x : Placed) → stops.withdrawal gtin ≡ stops'.withdrawal gtin
+    → ((batch : List ℕ) → option_and_then made_batch birth ≡ Some batch → stops.recall (batch_key gtin batch) ≡ stops'.recall (batch_key gtin batch)) → next_by stops gtin birth by x ≡ next_by stops' gtin birth by x
+next-same stops stops' gtin birth by x w r = grind (arith, nat_tests)
+
 -- an entry that names no pack, withdraws not the product of a pack, and recalls not its batch
 elsewhere : (log : List LogEntry) (entry : LogEntry) (pack : PackKey) → NamesNone pack entry.item → is_withdrawal_of pack.gtin entry.item ≡ false
     → IfSome (life_batch (life_of pack log)) (λ batch. is_recall_of (batch_key pack.gtin batch) entry.item ≡ false)
@@ -79,7 +81,9 @@ elsewhere log entry pack names withdrawal recall = let first = find-none (λ pla
   where
     same : (by x : Placed) → next_by (first_stops (ordered (longer log entry))) pack.gtin (first_upload pack (ordered (longer log entry))) by x
         ≡ next_by (first_stops (ordered log)) pack.gtin (first_upload pack (ordered log)) by x
-    same by x = grind (arith, nat_tests, find-none, names.0)
+    same by x = ap (λ (birth : Option Placed). next_by (first_stops (ordered (longer log entry))) pack.gtin birth by x) (find-none (λ placed. is_upload_of pack placed.entry.item) log entry names.0)
+        ∙ next-same (first_stops (ordered (longer log entry))) (first_stops (ordered log)) pack.gtin (first_upload pack (ordered log)) by x (find-none (λ placed. is_withdrawal_of pack.gtin placed.entry.item) log entry withdrawal)
+        (λ batch e. find-none (λ placed. is_recall_of (batch_key pack.gtin batch) placed.entry.item) log entry (subst (λ (o : Option (List ℕ)). IfSome o (λ batch. is_recall_of (batch_key pack.gtin batch) entry.item ≡ false)) e recall))
 
 -- the newest entry, by its place
 module _ (whole : List LogEntry) (place : ℕ) (l : length whole ≡ place + 1) where

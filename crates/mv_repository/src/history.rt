@@ -30,11 +30,12 @@ fn sent_of(entry: Option<&LogEntry>) -> Option<(Party, u32, &Message)>
     ensures { option_map (λ sent. record { sender = sent.0; stamp = sent.1; message = sent.2.now }) result
         ≡ option_and_then (λ entry. sent_in entry.sender entry.item) (option_copied entry.entry) }
 {
-    let entry = entry?;
-    match &entry.item {
-        Item::Carried { stamp, message, .. } => Some((entry.sender, *stamp, message.get())),
-        Item::Receipt { .. } => None,
+    if let Some(entry) = entry
+        && let Item::Carried { stamp, message, .. } = &entry.item
+    {
+        return Some((entry.sender, *stamp, message.get()));
     }
+    None
 }
 
 /// Whether the same was sent by two entries, if there are any.
@@ -99,7 +100,10 @@ impl<'a> History<'a> {
     pub fn upload(&self) -> Option<&'a LogEntry>
         ensures { option_copied result ≡ option_map entry_of self.now.upload }
     {
-        self.places.log.get(self.places.upload? as usize)
+        match self.places.upload {
+            Some(place) => self.places.log.get(place as usize),
+            None => None,
+        }
     }
 
     /// The statuses of the pack, in the order of stamps.
@@ -116,7 +120,10 @@ impl<'a> History<'a> {
     pub fn recall(&self) -> Option<&'a LogEntry>
         ensures { option_copied result ≡ option_map entry_of self.now.recall }
     {
-        self.places.log.get(self.places.recall? as usize)
+        match self.places.recall {
+            Some(place) => self.places.log.get(place as usize),
+            None => None,
+        }
     }
 
     /// The first withdrawal of the pack's product.

@@ -11,11 +11,11 @@ use crate::verdict::{found_active, found_explained, verdict_when};
 use indexmap::{IndexMap, IndexSet};
 use mv_link::{Item, Reached};
 use mv_message::{Message, Party};
-use std::alloc::{AllocError, Global};
+use std::alloc::AllocError;
 
 /// What is known of a query.
 #[derive(Drop)]
-struct Inquiry {
+pub struct Inquiry {
     /// The parties that the first receipt of it names, once that has come.
     asked: Option<Reached>,
     /// Whether an answer found the pack active.
@@ -27,9 +27,9 @@ struct Inquiry {
 /// What a repository knows of the queries of its own party.
 pub struct Inquiries {
     /// What is known of each query, by its number among the messages of the party.
-    inquiries: IndexMap<u32, Inquiry>,
+    pub(crate) inquiries: IndexMap<u32, Inquiry>,
     /// Which query was answered, by its number, and by which party.
-    replies: IndexSet<(u32, Party)>,
+    pub(crate) replies: IndexSet<(u32, Party)>,
 }
 
 // Written here, so that the drop of a repository proves nothing of how these tables are dropped.
@@ -40,16 +40,6 @@ impl Drop for Inquiries {
 }
 
 impl Inquiries {
-    /// What an empty log says. It takes no memory.
-    pub fn new(alloc: Global) -> Inquiries
-        ensures { (party : ℕ) → IsInquiriesOf party [] result }
-    {
-        Inquiries {
-            inquiries: IndexMap::new(alloc),
-            replies: IndexSet::new(alloc),
-        }
-    }
-
     /// Gets room for one more query and one more answer. Refused for want of memory; either way it is known what was known.
     pub fn reserve(&mut self) -> Result<(), AllocError>
         ensures room { OnOk result ((0 < map_spare self.new.inquiries) × (0 < set_spare self.new.replies)) }

@@ -1,7 +1,7 @@
 //! For each batch of a product the numbers of the tracks that may be of it: what a recall has to look at.
 
 ghost use Rattle.std.specs.Prelude.{◌≡◌, ◌==◌};
-ghost use Rattle.mv_repository.specs.Clauses.{IfSome, List, MatchOption, [], lists, may_stop, option_and_then, true, ℕ, Some, entry_at, list_any, made_batch};
+ghost use Rattle.mv_repository.specs.Clauses.{IfSome, List, MatchOption, lists, may_stop, option_and_then, true, ℕ, Some, entry_at, list_any, made_batch};
 
 use crate::LogEntry;
 use crate::entry::message_at;
@@ -17,11 +17,11 @@ use std::marker::Model;
 #[derive(Drop)]
 pub(crate) struct Listing {
     /// What memory is got from.
-    alloc: Global,
+    pub alloc: Global,
     /// For each batch that has tracks, their numbers, each once.
-    batches: IndexMap<Batch, IndexSet<u32>>,
+    pub batches: IndexMap<Batch, IndexSet<u32>>,
     /// Whether no number is left out.
-    is_whole: bool,
+    pub is_whole: bool,
 }
 
 impl Model for Listing {
@@ -34,17 +34,6 @@ impl Model for Listing {
 }
 
 impl Listing {
-    /// No number. It takes no memory.
-    pub fn new(alloc: Global) -> Listing
-        ensures { result ≡ record { is_whole = true; numbers = [] } }
-    {
-        Listing {
-            alloc,
-            batches: IndexMap::new(alloc),
-            is_whole: true,
-        }
-    }
-
     /// Lists a track under the batch of the upload at a place, if there is one. Where memory is refused for it, the listing is not
     /// whole any more.
     pub fn note(&mut self, log: &[LogEntry], birth: Option<u32>, number: u32)
@@ -68,7 +57,7 @@ impl Listing {
     /// The numbers of the tracks that a stop may bear on, each once; none where it may bear on any.
     pub fn of(&self, stop: &Stop<'_>) -> Option<&[u32]>
         ensures { MatchOption result ((number : ℕ) → may_stop self.now stop.now number ≡ true)
-            (λ numbers. (number : ℕ) → may_stop self.now stop.now number ≡ list_any (λ one. one == number) numbers.now) }
+            (λ numbers. (number : ℕ) → may_stop self.now stop.now number ≡ list_any (λ one. number == one) numbers.now) }
     {
         match *stop {
             Stop::OfBatch(key) if self.is_whole => match self.batches.get(&key.batch) {

@@ -8,9 +8,11 @@ use crate::history::Places;
 use crate::inquiries::Inquiries;
 use crate::shelf::Counted;
 use crate::state::held_at;
+use crate::stops::Stops;
 use crate::tables::Tables;
 use crate::verdict::{found_active, found_explained, verdict_when};
 use crate::{Effect, FromSender, Held, History, Joint, Local, LogEntry, ProductSerials};
+use indexmap::{IndexMap, IndexSet};
 use mv_link::Item;
 use mv_message::{Found, Message, Party, Product, Shared};
 use mv_pack::{BatchKey, Gtin, PackKey};
@@ -78,8 +80,19 @@ impl Repository {
             alloc,
             party,
             log: Vec::new(alloc),
-            tables: Tables::new(alloc),
-            inquiries: Inquiries::new(alloc),
+            tables: Tables {
+                alloc,
+                masters: IndexMap::new(alloc),
+                stops: Stops {
+                    recalls: IndexMap::new(alloc),
+                    withdrawals: IndexMap::new(alloc),
+                },
+                shelves: IndexMap::new(alloc),
+            },
+            inquiries: Inquiries {
+                inquiries: IndexMap::new(alloc),
+                replies: IndexSet::new(alloc),
+            },
         }
     }
 

@@ -10,6 +10,7 @@ use crate::state::Newest;
 use crate::stops::Stop;
 use crate::track::Track;
 use crate::{Effect, LogEntry};
+use indexmap::IndexMap;
 use mv_index::{HashIndex, hash_of};
 use mv_pack::{Gtin, PackKey, Serial};
 use std::alloc::{AllocError, Global};
@@ -27,7 +28,7 @@ pub(crate) enum Counted {
 /// Works out again the track of a number, where there is one.
 fn refresh_track(tracks: &mut Vec<Track>, newest: &Newest<'_>, gtin: &Gtin, number: usize)
     ensures count { length tracks.new.items ≡ length tracks.old.items }
-    ensures tracks { (other : ℕ) → IsRefreshed newest.now.log.now (stops_in newest.now.log.now newest.now.stops.now) gtin.now (number == other)
+    ensures tracks { (other : ℕ) → IsRefreshed newest.now.log.now (stops_in newest.now.log.now newest.now.stops.now) gtin.now (other == number)
         (get_or tracks.old.items other nothing_kept) (get_or tracks.new.items other nothing_kept) }
 {
     if let Some(track) = tracks.get_mut(number) {
@@ -80,7 +81,11 @@ impl Shelf {
             slots: Vec::new(alloc),
             names: Vec::new(alloc),
             tracks: Vec::new(alloc),
-            listing: Listing::new(alloc),
+            listing: Listing {
+                alloc,
+                batches: IndexMap::new(alloc),
+                is_whole: true,
+            },
         }
     }
 
@@ -192,6 +197,7 @@ impl Shelf {
         requires shelf { AreShelfOf (take newest.now.place newest.now.log.now) gtin.now self.old }
         ensures ok { OnOk result (AreShelfOf newest.now.log.now gtin.now self.new) }
         ensures effect { IfOk result (λ effect. effect ≡ newest_effect newest.now.log.now newest.now.place) }
+        ensures few { OnOk result (length serials.now ≤ MOST_SERIALS) }
         ensures err { OnErr result (AreShelfOf (take newest.now.place newest.now.log.now) gtin.now self.new) }
     {
         if serials.len() > MOST_SERIALS {

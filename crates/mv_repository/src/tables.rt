@@ -1,7 +1,7 @@
 //! The tables that a repository keeps of its log, and what one more entry does to them.
 
 ghost use Rattle.std.specs.Prelude.{◌≡◌, ◌+◌};
-ghost use Rattle.mv_repository.specs.Clauses.{AnEntry, AreTablesOf, IfOk, List, OnErr, OnOk, [], distinct_count, entry_at, filter, is_counted, is_same_pack, is_stop, length, newest_effect, take, kept_of, life_of, true, uploaded_packs};
+ghost use Rattle.mv_repository.specs.Clauses.{AnEntry, AreTablesOf, IfOk, List, OnErr, OnOk, distinct_count, entry_at, filter, is_counted, is_same_pack, is_stop, length, newest_effect, take, kept_of, life_of, true, uploaded_packs};
 
 use crate::entry::{message_at, passes};
 use crate::shelf::{Counted, Shelf};
@@ -17,40 +17,21 @@ use std::alloc::{AllocError, Global};
 #[derive(Drop)]
 pub struct Tables {
     /// What memory is got from.
-    alloc: Global,
+    pub(crate) alloc: Global,
     /// For each product code with a master, the place in the log of the last one by stamp.
     pub(crate) masters: IndexMap<Gtin, u32>,
     /// The first recalls and withdrawals.
     pub(crate) stops: Stops,
     /// What is kept of the packs of each product.
     pub(crate) shelves: IndexMap<Gtin, Shelf>,
-    /// How many packs all uploads name, each as often as it is named.
-    pub(crate) named: usize,
 }
 
 impl Tables {
-    /// The tables of an empty log. They take no memory.
-    pub fn new(alloc: Global) -> Tables
-        ensures { AreTablesOf [] result }
-    {
-        Tables {
-            alloc,
-            masters: IndexMap::new(alloc),
-            stops: Stops {
-                recalls: IndexMap::new(alloc),
-                withdrawals: IndexMap::new(alloc),
-            },
-            shelves: IndexMap::new(alloc),
-            named: 0,
-        }
-    }
-
     /// How many packs are counted, each once.
     pub fn count(&self, counted: Counted) -> usize
         ensures { (log : List AnEntry) → AreTablesOf log self.now
             → result ≡ distinct_count is_same_pack (filter (λ pack. is_counted counted (kept_of (life_of pack log))) (uploaded_packs log)) }
     {
-        prove!(self.named <= usize::MAX);
         let mut count = 0usize;
         for (_, shelf) in self.shelves.iter() {
             count = count.saturating_add(shelf.count(counted));
@@ -67,11 +48,6 @@ impl Tables {
         ensures effect { IfOk result (λ effect. effect ≡ newest_effect log.now place) }
         ensures err { OnErr result (AreTablesOf (take place log.now) self.new) }
     {
-        let newest = Newest {
-            log,
-            stops: &self.stops,
-            place,
-        };
         let Some(message) = message_at(log, place as usize) else {
             return Ok(Effect::Noted);
         };
@@ -81,23 +57,33 @@ impl Tables {
                 if matches!(last, Some(last) if passes(log, place, last)) {
                     return Ok(Effect::Done);
                 }
-                self.masters.insert(*gtin, place)?;
-                Ok(Effect::Done)
+                match self.masters.insert(*gtin, place) {
+                    Ok(_) => Ok(Effect::Done),
+                    Err(_) => Err(AllocError),
+                }
             }
             Message::Upload { gtin, serials, .. } => {
-                let serials = serials.as_slice();
-                if serials.len() > usize::MAX - self.named {
+                let Ok(shelf) = self.shelves.entry(*gtin) else {
                     return Err(AllocError);
-                }
-                let shelf = self.shelves.entry(*gtin)?;
+                };
                 let shelf = shelf.or_insert(Shelf::new(self.alloc));
-                let effect = shelf.add_upload(&newest, gtin, serials)?;
-                self.named += serials.len();
-                Ok(effect)
+                let newest = Newest {
+                    log,
+                    stops: &self.stops,
+                    place,
+                };
+                shelf.add_upload(&newest, gtin, serials.as_slice())
             }
             Message::Status { key, .. } => {
-                let shelf = self.shelves.entry(key.gtin)?;
+                let Ok(shelf) = self.shelves.entry(key.gtin) else {
+                    return Err(AllocError);
+                };
                 let shelf = shelf.or_insert(Shelf::new(self.alloc));
+                let newest = Newest {
+                    log,
+                    stops: &self.stops,
+                    place,
+                };
                 shelf.add_status(self.alloc, &newest, key)
             }
             Message::Recall { key, .. } => self.add_stop(log, &Stop::OfBatch(key), place),

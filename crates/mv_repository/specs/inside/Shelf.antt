@@ -113,7 +113,7 @@ IsUploadOf _ gtin serials = ⊥
 
 -- a number may be of a batch: any may, where they are not all
 abbrev pub lists : ListingTable → List ℕ → ℕ → Bool
-lists listing batch number = not listing.is_whole || option_map_or (λ numbers. list_any (λ one. one == number) numbers) (lookup (bytes_eq batch) listing.numbers) false
+lists listing batch number = not listing.is_whole || option_map_or (λ numbers. list_any (λ one. number == one) numbers) (lookup (bytes_eq batch) listing.numbers) false
 
 -- a stop may bear on the pack of a track
 abbrev pub may_stop : ListingTable → Stop → ℕ → Bool

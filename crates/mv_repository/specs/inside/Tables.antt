@@ -1,5 +1,5 @@
 -- What a repository keeps beside its log: the tables of its products and packs, and what it knows of its own queries.
-use Rattle.std.specs.Prelude.{◌≡◌, ◌&&◌, ◌||◌, ◌==◌, if◌then◌else◌, unwrap_or}
+use Rattle.std.specs.Prelude.{◌≡◌, ◌≤◌, ◌*◌, ◌&&◌, ◌||◌, ◌==◌, if◌then◌else◌, unwrap_or}
 use Rattle.mv_repository.specs.Words.{ℕ, Bool, false, nat_eq, length, filter, last_or, bytes_eq, List, Option, Some, None, list_any, option_or, lookup, Master, Answer, Item, Receipt, Carried, LogEntry, option_map}
 use Rattle.mv_repository.specs.declared.inquiries.Inquiries.{Inquiries}
 use Rattle.mv_repository.specs.declared.inquiries.Inquiry.{Inquiry}
@@ -15,13 +15,13 @@ abbrev pub is_master : List ℕ → Item → Bool
 is_master gtin (Carried k stamp (Master named product)) = bytes_eq named gtin
 is_master gtin _ = false
 
--- the tables are those of a log, and its uploads name so many packs, each as often as it is named
+-- the tables are those of a log of at most 2^32 entries, whose uploads name no more packs than 2^16 each
 pub record AreTablesOf (log : List LogEntry) (tables : Tables) : Type 0 where
   -- for each code the place of its last master by stamp
   pub masters : (gtin : List ℕ) → lookup (bytes_eq gtin) tables.masters.entries ≡ option_map place_of (last_or None (filter (λ placed. is_master gtin placed.entry.item) (ordered log)))
   pub stops : AreStopsOf log tables.stops
   pub shelves : (gtin : List ℕ) → AreShelfOf log gtin (shelf_of gtin tables.shelves.entries)
-  pub named : tables.named ≡ length (uploaded_packs log)
+  pub few : (length (uploaded_packs log) ≤ 65536 * length log) × (length log ≤ 4294967296)
 
 -- the query of the party that an item from a sender tells of: it is the receipt of one, or an answer to one
 abbrev pub query_of : ℕ → ℕ → Item → Option ℕ

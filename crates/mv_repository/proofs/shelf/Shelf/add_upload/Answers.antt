@@ -1,5 +1,5 @@
 -- One serial number more.
-use Rattle.mv_repository.proofs.Lemmas.{◌≡◌, ◌+◌, ◌∷◌, AreSlots, ArePacksOf, IsShelfOf, SlotTable, keyed, shelf-seen, shelf-same, on_err, Kept, List, [], ap, arith, bytes_eq, comes_first, cond, fold, fold-append, get_or, get_or_default, insert_key, kept_in, log-length, log-split, nat_tests, new-more, no_entry, refl, rules, serials-at, serials_of, shelf_by, subst, sym, take, take_all, take_more, text-self, upload-adds, upload-all, upload-serials, ℕ, ◌∙◌, common_steps}
+use Rattle.mv_repository.proofs.Lemmas.{◌≡◌, ◌+◌, ◌∷◌, Some, slice_get, slice_get-get_or, AreSlots, ArePacksOf, IsShelfOf, SlotTable, keyed, shelf-seen, shelf-same, on_err, Kept, List, [], ap, arith, bytes_eq, comes_first, cond, fold, fold-append, get_or, get_or_default, insert_key, kept_in, log-length, log-split, nat_tests, new-more, no_entry, refl, rules, serials-at, serials_of, shelf_by, subst, sym, take, take_all, take_more, text-self, upload-adds, upload-all, upload-names, upload-serials, ℕ, ◌∙◌, common_steps}
 use Rattle.mv_repository.proofs.shelf.Shelf.add_upload.Goals as goal
 
 pub loop-index-init : goal.loop-index-init
@@ -58,3 +58,6 @@ returns-clause-effect c = grind (arith, common_steps)
 -- where memory is refused, all is kept as it was
 pub returns-in_err-and-clause-err : goal.returns-in_err-and-clause-err
 returns-in_err-and-clause-err c = on_err c.from_residual.result _ (shelf-same _ _ c.args.self.now _ ((λ i. record { hashes = c.reserve.ensures.hashes i; slots = c.reserve-2.ensures.items i; names = c.self.inside.names.items }) ∙ (λ i. (c.self.view_is i).table)) (λ i. (c.self.view_is i).tracks) (λ i. (c.self.view_is i).listing) c.requires.shelf)
+
+pub put_upload-is_first-requires-clause-named : goal.put_upload-is_first-requires-clause-named
+put_upload-is_first-requires-clause-named c = ap (λ (l : List (List ℕ)). slice_get l c.loop-index.index) (upload-names _ c.args.gtin.now c.args.serials.now c.requires.upload) ∙ slice_get-get_or c.args.serials.now c.loop-index.index c.index-serials-index.result c.loop-index-test.true ∙ ap Some (sym c.index-serials-index.is)

@@ -1,5 +1,6 @@
 -- The tracks that may be stopped are worked out, and the entry bears on no other pack.
-use Rattle.mv_repository.proofs.Lemmas.{AreShelfOf, Kept, List, ShelfTable, arith, common_steps, get_or, keyed, may_stop, no_entry, nothing_kept, shelf-again, shelf-seen, stop-form, stop-passes, stopped_product, stops_in, ℕ, IsRefreshed, SlotTable}
+use Rattle.mv_repository.proofs.Lemmas.{◌∙◌, AreShelfOf, Kept, List, ShelfTable, arith, common_steps, get_or, keyed, may_stop, no_entry, nothing_kept, shelf-again, shelf-seen, stop-form, stop-passes, stopped_product, stops_in, ℕ, IsRefreshed, SlotTable}
+use Rattle.mv_repository.proofs.Words.{◌≡◌, ◌+◌, ◌==◌, ◌||◌, Bool, FirstStops, LogEntry, list_any_more, nat_lt, nat_tests}
 use Rattle.mv_repository.proofs.shelf.Shelf.refresh.Goals.{After-of}
 use Rattle.mv_repository.proofs.shelf.Shelf.refresh.Goals as goal
 
@@ -28,5 +29,15 @@ returns-in_default c = refreshed (goal.at.returns-in_default c).After-of c.loop-
 pub returns : goal.returns
 returns c = refreshed (goal.at.returns c).After-of c.loop-listed.tracks.items _ (λ number. grind (arith, common_steps, c.loop-listed.invariant.tracks number))
 
+-- a track that was worked out again may be so once more
+refreshed-more : (log : List LogEntry) (stops : FirstStops) (gtin : List ℕ) (b c d : Bool) (was mid now : Kept) → IsRefreshed log stops gtin b was mid → IsRefreshed log stops gtin c mid now → d ≡ (b || c) → IsRefreshed log stops gtin d was now
+refreshed-more log stops gtin b c d was mid now first then e = grind (arith, nat_tests)
+
+lt-more : (a b : ℕ) → nat_lt a (b + 1) ≡ (nat_lt a b || (a == b))
+lt-more a b = grind (arith, nat_tests)
+
+pub loop-number-preserved : goal.loop-number-preserved
+loop-number-preserved c = record { count = c.refresh_track.ensures.count ∙ c.loop-number.invariant.count; tracks = λ other. refreshed-more _ _ _ _ _ _ _ _ _ (c.loop-number.invariant.tracks other) (c.refresh_track.ensures.tracks other) (lt-more other c.loop-number.number) }
+
 pub loop-listed-preserved : goal.loop-listed-preserved
-loop-listed-preserved c = grind (arith, common_steps)
+loop-listed-preserved c = record { count = c.refresh_track-in-loop-listed.ensures.count ∙ c.loop-listed.invariant.count; tracks = λ other. refreshed-more _ _ _ _ _ _ _ _ _ (c.loop-listed.invariant.tracks other) (c.refresh_track-in-loop-listed.ensures.tracks other) (list_any_more (λ one. other == one) c.in-Some.numbers.now c.loop-listed.listed-index 0 c.loop-listed-test.true) }

@@ -1,5 +1,5 @@
 -- The first works out the packs that it may bear on; any other changes none.
-use Rattle.mv_repository.proofs.Lemmas.{◌≡◌, ◌∙◌, AreStopsOf, arith, bytes_eq, comes_first, rules, ap, refl, subst, sym, get_or, take, true, false, Option, None, lookup, unwrap_or, ShelfParts, AreShelfOf, first_place, no_shelf, recall-added, shelf_of, no_entry, stopped_product, shelf-empty, masters-at, shelves-at, named-at, shelved-none, tables-follow, stop-form, stop-does, stop-leaves, stop-away, withdrawal-added, AreTablesOf, Bool, effect_of, lasting_effect, not, HasFirst, Tables, is_recall_of, is_same_batch, is_withdrawal_of}
+use Rattle.mv_repository.proofs.Lemmas.{◌≡◌, ◌∙◌, AreStopsOf, arith, bytes_eq, comes_first, rules, ap, refl, subst, sym, get_or, take, true, false, Option, None, lookup, unwrap_or, ShelfParts, AreShelfOf, first_place, no_shelf, recall-added, shelf_of, no_entry, stopped_product, shelf-empty, few-at, masters-at, shelves-at, shelved-none, tables-follow, stop-form, stop-does, stop-leaves, stop-away, withdrawal-added, AreTablesOf, Bool, effect_of, lasting_effect, not, HasFirst, Tables, is_recall_of, is_same_batch, is_withdrawal_of}
 use Rattle.mv_repository.proofs.tables.Tables.add_stop.Goals.{In_ok-is_first, in-OfBatch, in-OfProduct}
 use Rattle.mv_repository.proofs.tables.Tables.add_stop.Goals as goal
 
@@ -43,7 +43,7 @@ returns-then-not-branch-clause-ok c = let at = (goal.at.returns-then-not-branch-
       masters = masters-at c.args.log.now c.args.place c.requires.last (was at).masters.entries form.1 (tables at).masters;
       stops = added at;
       shelves = shelves-at c.args.log.now c.args.place c.requires.last (was at).shelves.entries form.0 stays (tables at).shelves;
-      named = named-at c.args.log.now c.args.place c.requires.last (was at).named form.0.1 (tables at).named;
+      few = few-at c.args.log.now c.args.place c.requires.last form.0.1 (omega arith) (tables at).few;
     }
 
 pub returns-then-not-branch-clause-effect : goal.returns-then-not-branch-clause-effect
@@ -58,7 +58,7 @@ returns-in_default-clause-ok c = let at = (goal.at.returns-in_default-clause-ok 
     let left : c.get_mut.follows.lender-at-none.entries ≡ (was at).shelves.entries = search rules in
     tables-follow c.args.log.now c.args.place c.requires.last (was at) _ gtin no_shelf form.1 (tables at) refl (added at) (shelved-none (was at).shelves.entries _ gtin left empty)
     (shelf-empty c.args.log.now c.args.place c.match-stop.self.stops gtin c.requires.last (added at) form.0 (subst (AreShelfOf (take c.args.place c.args.log.now) gtin) empty ((tables at).shelves gtin)))
-    (stop-away c.args.log.now c.args.place c.requires.last c.args.stop.now c.requires.stop) (named-at c.args.log.now c.args.place c.requires.last (was at).named form.0.1 (tables at).named)
+    (stop-away c.args.log.now c.args.place c.requires.last c.args.stop.now c.requires.stop) (few-at c.args.log.now c.args.place c.requires.last form.0.1 (omega arith) (tables at).few)
 
 pub returns-in_default-clause-effect : goal.returns-in_default-clause-effect
 returns-in_default-clause-effect c = effect (goal.at.returns-in_default-clause-effect c).In_ok-is_first true (sym c.if-not-branch.false)
@@ -76,7 +76,7 @@ pub returns-clause-ok : goal.returns-clause-ok
 returns-clause-ok c = let at = (goal.at.returns-clause-ok c).In_ok-is_first in
     let form = stop-form c.args.stop.now (get_or c.args.log.now c.args.place no_entry).item c.requires.stop in
     tables-follow c.args.log.now c.args.place c.requires.last (was at) _ (stopped_product c.args.stop.now) c.refresh.new.self form.1 (tables at) refl (added at) (λ other. search rules)
-    c.refresh.ensures (stop-away c.args.log.now c.args.place c.requires.last c.args.stop.now c.requires.stop) (named-at c.args.log.now c.args.place c.requires.last (was at).named form.0.1 (tables at).named)
+    c.refresh.ensures (stop-away c.args.log.now c.args.place c.requires.last c.args.stop.now c.requires.stop) (few-at c.args.log.now c.args.place c.requires.last form.0.1 (omega arith) (tables at).few)
 
 pub returns-clause-effect : goal.returns-clause-effect
 returns-clause-effect c = effect (goal.at.returns-clause-effect c).In_ok-is_first true (sym c.if-not-branch.false)

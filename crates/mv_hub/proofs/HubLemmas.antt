@@ -1,5 +1,5 @@
 -- What the hub keeps, through a routing and a relay.
-use Rattle.mv_hub.proofs.Words.{◌≡◌, ℕ, ◌+◌, ◌<◌, ◌≤◌, Bool, true, false, ◌&&◌, ◌||◌, not, List, [], ◌∷◌, ◌++◌, length, get_or, set, cond, None, sym, refl, ap, ◌∙◌, arith, inl, inr, append-nil, ◌↔◌, length-set, ◌==◌, nat_lt, find, replicate, rules, All, Carried, Carries, Closed, Entry, HasRoom, HubState, IsKept, IsRouting, IsSquare, Item, Message, PARTIES_LIMIT, PartySet, PushesItems, PushesRow, Receipt, Routed, Sending, busy_party, cases_eq, cell, cell-map, elements, eq-eqb, find-none_at, find-those, gain_of, gained, get_or-replicate, get_or_default, has_party, is_busy, is_open, is_query, is_reached, is_target, items_on, length-replicate, link_at, link_items, listed-in, nat_tests, new_hub, new_sending, next_items, parties_in, put, put-each_pair, put-map, reach, routed_count, sent_of, sent_table, square-put, table-all, with_relayed}
+use Rattle.mv_hub.proofs.Words.{◌≡◌, ℕ, ◌+◌, ◌<◌, ◌≤◌, Bool, true, false, ◌&&◌, ◌||◌, not, List, [], ◌∷◌, ◌++◌, length, get_or, set, cond, None, sym, refl, ap, ◌∙◌, arith, inl, inr, append-nil, ◌↔◌, length-set, ◌==◌, nat_lt, find, replicate, rules, All, Carried, Carries, Closed, Entry, HasRoom, HubState, IsKept, IsRouting, IsSquare, Item, Message, PARTIES_LIMIT, PartySet, PushesItems, PushesRow, Receipt, Routed, Sending, busy_party, cases_eq, cell, cell-map, elements, eq-eqb, find-none_at, find-those, gain_of, gained, get_or-replicate, get_or_default, has_party, is_busy, is_open, is_query, is_reached, is_target, items_on, length-replicate, link_at, link_items, listed-in, nat_tests, new_hub, new_sending, next_items, parties_in, put, put-each_pair, put-map, reach, routed_count, sent_of, sent_table, square-map, square-put, table-all, with_relayed}
 use Rattle.mv_hub.specs.declared.hub.routing.Routing.{Routing}
 use Rattle.mv_hub.proofs.RecordLemmas.{routed_from-append, is_open-append, link_items-push, gained_other, gained-closed}
 
@@ -53,6 +53,10 @@ reach_listed parties entries from message reached few is = grind (arith, listed-
 -- what a link gains is what the record will put on it
 pub next-gain : (hub : HubState) (routing : Routing) (to : ℕ) → IsRouting hub routing → gain_of routing to ≡ next_items hub routing.from routing.message.now to
 next-gain hub routing to is = grind (arith, reach_listed, next_items_are)
+
+-- what was relayed of each link, once one link is another
+pub sent_put : (links : List (List Sending)) (from to : ℕ) (new : Sending) → sent_table (put links from to new) ≡ put (sent_table links) from to new.sent
+sent_put links from to new = put-map (λ v. v.sent) links from to new
 
 -- how many items of a link were relayed
 pub sent_at : (links : List (List Sending)) (from to : ℕ) → cell (sent_table links) from to 0 ≡ (link_at links from to).sent
@@ -126,18 +130,12 @@ module _ {parties : List (List (List ℕ))} {window : ℕ} {entries : List Entry
   kept_closed from to opened rest is_from at without = grind (arith, get_or_default, routed_from-append, Closed, append-nil, elements, is_open-append, link_items-push, gained-closed)
 
   -- all that the hub keeps, once an item of a link was relayed
-  pub kept-relayed : (from to : ℕ) (old new : Sending) → from < length parties → to < length parties → link_at links from to ≡ old
+  pub kept_relayed : (from to : ℕ) (old new : Sending) → from < length parties → to < length parties → link_at links from to ≡ old
       → new ≡ record old { sent = old.sent + 1 } → IsKept parties window entries routed_counts open_links (put links from to new)
-  kept-relayed from to old new is_from is_to at e =
+  kept_relayed from to old new is_from is_to at e =
       let carried = put-each_pair (λ i j v. i < length parties → j < length parties → Carries window (link_items parties entries i j) v) links from to new
       (new_sending 0) (λ _ _. rw e (carries-relayed window _ old (rw at at (kept.carries from to is_from is_to)))) kept.carries in
       search (rules, square-put, carried)
-
--- what the hub is seen as, once an item was relayed
-pub view_relayed : (parties : List (List (List ℕ))) (window : ℕ) (entries : List Entry) (links : List (List Sending)) (from to : ℕ) (new : Sending)
-    → new.sent ≡ (link_at links from to).sent + 1
-    → view parties window entries (put links from to new) ≡ with_relayed (view parties window entries links) from to
-view_relayed parties window entries links from to new e = rw (put-map (λ (v : Sending). v.sent) links from to new, e, sent_at links from to)
 
 -- a hub where nothing has happened keeps what it should
 pub kept-new : (parties : List (List (List ℕ))) (window : ℕ) (all : PartySet) (links : List (List Sending))

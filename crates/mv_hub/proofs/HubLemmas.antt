@@ -1,5 +1,5 @@
 -- What the hub keeps, through a routing and a relay.
-use Rattle.mv_hub.proofs.Words.{◌≡◌, ℕ, ◌+◌, ◌<◌, ◌≤◌, Bool, true, false, ◌&&◌, ◌||◌, not, List, [], ◌∷◌, ◌++◌, length, get_or, set, cond, None, sym, refl, ap, ◌∙◌, arith, inl, inr, append-nil, ◌↔◌, length-set, ◌==◌, nat_lt, find, replicate, rules, All, Carried, Carries, Closed, Entry, HasRoom, HubState, IsKept, IsRouting, IsSquare, Item, Message, PARTIES_LIMIT, PartySet, PushesItems, PushesRow, Receipt, Routed, Sending, busy_party, cases_eq, cell, cell-map, elements, eq-eqb, find-none_at, find-those, gain_of, gained, get_or-replicate, get_or_default, has_party, is_busy, is_open, is_query, is_reached, is_target, items_on, length-replicate, link_at, link_items, listed-in, nat_tests, new_hub, new_sending, next_items, parties_in, put, put-each_pair, put-map, reach, routed_count, sent_of, sent_table, square-map, square-put, table-all, with_relayed}
+use Rattle.mv_hub.proofs.Words.{◌≡◌, ℕ, ◌+◌, ◌<◌, ◌≤◌, Bool, true, false, ◌&&◌, ◌||◌, not, List, [], ◌∷◌, ◌++◌, length, get_or, set, cond, None, sym, refl, ap, ◌∙◌, arith, inl, inr, append-nil, ◌↔◌, length-set, ◌==◌, nat_lt, find, replicate, rules, All, Carried, Carries, Closed, Entry, HasRoom, HubState, IsKept, IsRouting, IsSquare, Item, Message, PARTIES_LIMIT, PartySet, PushesItems, PushesRow, Receipt, Routed, Sending, busy_party, cases_eq, cell, cell-map, elements, eq-eqb, find-none_at, find-those, gain_of, gained, get_or-replicate, get_or_default, has_party, is_busy, is_open, is_query, is_reached, is_target, items_on, length-replicate, link_at, link_items, listed-in, nat_tests, new_hub, new_sending, next_items, parties_in, put, put-each_pair, put-map, reach, routed_count, sent_of, sent_table, square-put, table-all}
 use Rattle.mv_hub.specs.declared.hub.routing.Routing.{Routing}
 use Rattle.mv_hub.proofs.RecordLemmas.{routed_from-append, is_open-append, link_items-push, gained_other, gained-closed}
 

@@ -89,17 +89,10 @@ impl MasterProduct {
     pub fn get(&self) -> Option<&Product>
         ensures { option_copied result ≡ self.now }
     {
-        product_of(self.master.as_ref()?)
-    }
-}
-
-/// The product that a message gives.
-fn product_of(message: &Shared<Message>) -> Option<&Product>
-    ensures { option_copied result ≡ product_of message.now }
-{
-    match message.get() {
-        Message::Master { product, .. } => Some(product.get()),
-        _ => None,
+        match self.master.as_ref()?.get() {
+            Message::Master { product, .. } => Some(product.get()),
+            _ => None,
+        }
     }
 }
 

@@ -8,7 +8,9 @@ ghost use Rattle.mv_hub.specs.BatchLinks.{linked_to, IsDescendant, IsAscendingLi
 ghost use Rattle.mv_hub.specs.inside.Kept.{Carries};
 
 use crate::trail::AuditTrail;
+use crate::trail::batch_links::{add_all, ascending};
 use crate::{Catalogue, Entry, Parties};
+use indexmap::IndexSet;
 use mv_link::{Outgoing, PartySet};
 use mv_message::Party;
 use mv_pack::{BatchKey, Gtin, Market};
@@ -172,7 +174,7 @@ impl Hub {
         ensures { IfOk result (λ list.
             IsAscendingList list.items (Contains (linked_to self.now.entries batch.now))) }
     {
-        self.trail.linked(batch)
+        ascending(self.alloc, self.trail.links_of(batch))
     }
 
     /// The batches that descend from a batch: those to which a chain of one or more links leads from it, ascending and each
@@ -181,6 +183,15 @@ impl Hub {
         ensures { IfOk result (λ list.
             IsAscendingList list.items (IsDescendant self.now.entries batch.now)) }
     {
-        self.trail.descendants(batch)
+        let mut reached = IndexSet::new(self.alloc);
+        add_all(&mut reached, self.trail.links_of(batch))?;
+        // Each is looked at once, in the order in which it was reached.
+        let mut next = 0usize;
+        while next < reached.len() {
+            let links = self.trail.links_of(&reached.as_slice()[next]);
+            add_all(&mut reached, links)?;
+            next += 1;
+        }
+        ascending(self.alloc, reached.as_slice())
     }
 }

@@ -21,25 +21,23 @@ impl MarketTable {
         requires { length lists.now ≤ PARTIES_LIMIT }
         ensures { MatchOption result
             (has_twice (all_markets (map (λ list. list.items) lists.now)) ≡ true)
-            (λ table. AreNoted (map (λ list. list.items) lists.now) table.noted) }
+            (λ table. AreNoted (map (λ list. list.items) lists.now) table.noted true) }
     {
         let mut noted = [0; MARKETS_LIMIT];
+        let mut once = true;
         for party in 0..lists.len() {
-            let markets = lists[party].as_slice();
-            for market in markets {
+            for market in lists[party].as_slice() {
                 let place = market.place();
-                if noted[place] != 0 {
-                    return None;
-                }
+                once &= noted[place] == 0;
                 noted[place] = party as u8 + 1;
             }
         }
-        Some(MarketTable { noted })
+        once.then_some(MarketTable { noted })
     }
 
     /// The party that serves a market, if one does.
     pub(crate) fn party_of(&self, market: &Market) -> Option<Party>
-        ensures { (lists : List (List (List ℕ))) (party : ℕ) → AreNoted lists self.now.noted
+        ensures { (lists : List (List (List ℕ))) (party : ℕ) → AreNoted lists self.now.noted true
             → has_market (served_by lists party) market.now ≡ is_found result party }
     {
         let noted = self.noted[market.place()];

@@ -23,7 +23,7 @@ pub struct Parties {
 }
 
 impl Model for Parties {
-    ghost use Rattle.std.specs.Prelude.{ℕ, List, length, ◌≤◌};
+    ghost use Rattle.std.specs.Prelude.{ℕ, List, length, true, ◌≤◌};
     ghost use Rattle.mv_link.specs.declared.limits.TheConstants.{PARTIES_LIMIT};
     ghost use Rattle.mv_hub.specs.inside.Kept.{AreNoted};
 
@@ -32,7 +32,7 @@ impl Model for Parties {
     ghost view = { λ p. p.lists.items };
 
     ghost invariant = { λ p. (1 ≤ length p.lists.items) × (length p.lists.items ≤ PARTIES_LIMIT)
-        × AreNoted p.lists.items p.table.noted };
+        × AreNoted p.lists.items p.table.noted true };
 }
 
 impl Parties {
@@ -52,7 +52,7 @@ impl Parties {
         let Some(table) = MarketTable::of(lists.as_slice()) else {
             return Err(HubFault::ServedTwice);
         };
-        let lists = as_markets(alloc, lists)?;
+        let lists = lists.into_iter().map(Markets::new).collect(alloc)?;
         Ok(Parties { lists, table })
     }
 
@@ -107,11 +107,4 @@ impl Parties {
         }
         none.with(party)
     }
-}
-
-/// The same lists of markets.
-fn as_markets(alloc: Global, lists: Vec<Vec<Market>>) -> Result<Vec<Markets>, AllocError>
-    ensures { IfOk result (λ made. made.items ≡ map (λ list. list.items) lists.items) }
-{
-    lists.into_iter().map(Markets::new).collect(alloc)
 }

@@ -14,7 +14,7 @@ use mv_pack::{BatchKey, Gtin};
 use std::alloc::{AllocError, Global};
 use std::marker::Model;
 
-mod batch_links;
+pub(crate) mod batch_links;
 mod catalogues;
 
 /// The record and its tables. Contracts see the record, the oldest entry first.

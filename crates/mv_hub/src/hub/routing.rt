@@ -34,24 +34,6 @@ pub(super) struct Routing<'a> {
 }
 
 impl Hub {
-    /// How the next message of a party is routed.
-    fn routing<'a>(&self, from: Party, message: &'a Message) -> Routing<'a>
-        requires from { from < length self.now.parties }
-        requires short_record { length self.now.entries < NUMBER_LIMIT }
-        ensures from { result.from ≡ from }
-        ensures message { result.message.now ≡ message.now }
-        ensures routing { IsRouting self.now result }
-    {
-        Routing {
-            from,
-            message,
-            k: self.routed_count(from) + 1,
-            stamp: self.record().len() as u32 + 1,
-            receipted: self.is_open(from, from),
-            reached: self.reached(from, message),
-        }
-    }
-
     /// Whether a link has no room for what the routing puts on it.
     #[tactic(auto, using(crate::proofs::HubLemmas::next_items_are, crate::proofs::HubLemmas::busy_is))]
     fn is_busy(&self, routing: &Routing<'_>, to: Party) -> bool
@@ -94,7 +76,14 @@ impl Hub {
         if from >= self.parties().len() {
             return Err(RouteFault::StrangerParty);
         }
-        let routing = self.routing(from, message);
+        let routing = Routing {
+            from,
+            message,
+            k: self.routed_count(from) + 1,
+            stamp: self.record().len() as u32 + 1,
+            receipted: self.is_open(from, from),
+            reached: self.reached(from, message),
+        };
         match self.busy_party(&routing) {
             Some(to) => Err(RouteFault::Busy(to)),
             None => Ok(routing),

@@ -2,7 +2,7 @@
 
 ghost use Rattle.std.specs.Prelude.{◌≡◌, ◌++◌, ◌∷◌, [], Contains, OnOk, OnErr, IfOk, if◌then◌else◌};
 ghost use Rattle.mv_hub.specs.Words.{BatchKey as ABatch, is_same_batch};
-ghost use Rattle.mv_hub.specs.BatchLinks.{linked_to, IsDescendant, IsAscendingList};
+ghost use Rattle.mv_hub.specs.BatchLinks.{linked_to, IsAscendingList};
 ghost use Rattle.mv_hub.specs.inside.Kept.{linked_in, Gathers};
 
 use crate::trail::AuditTrail;
@@ -33,7 +33,7 @@ pub(super) fn add_link(
 
 impl AuditTrail {
     /// The batches that are linked to a batch, in the order of their links.
-    fn links_of(&self, batch: &BatchKey) -> &[BatchKey]
+    pub(crate) fn links_of(&self, batch: &BatchKey) -> &[BatchKey]
         ensures { result.now ≡ linked_to self.now batch.now }
     {
         match self.batch_links.get(batch) {
@@ -41,35 +41,10 @@ impl AuditTrail {
             None => &[],
         }
     }
-
-    /// The batches that are linked to a batch, ascending. Refused for want of memory.
-    pub(crate) fn linked(&self, batch: &BatchKey) -> Result<Vec<BatchKey>, AllocError>
-        ensures { IfOk result (λ list.
-            IsAscendingList list.items (Contains (linked_to self.now batch.now))) }
-    {
-        ascending(self.alloc, self.links_of(batch))
-    }
-
-    /// The batches to which a chain of one or more links leads from a batch, ascending. Refused for want of memory.
-    pub(crate) fn descendants(&self, batch: &BatchKey) -> Result<Vec<BatchKey>, AllocError>
-        ensures { IfOk result (λ list.
-            IsAscendingList list.items (IsDescendant self.now batch.now)) }
-    {
-        let mut reached = IndexSet::new(self.alloc);
-        add_all(&mut reached, self.links_of(batch))?;
-        // Each is looked at once, in the order in which it was reached.
-        let mut next = 0usize;
-        while next < reached.len() {
-            let links = self.links_of(&reached.as_slice()[next]);
-            add_all(&mut reached, links)?;
-            next += 1;
-        }
-        ascending(self.alloc, reached.as_slice())
-    }
 }
 
 /// Puts batches into a set, behind those that are there.
-fn add_all(set: &mut IndexSet<BatchKey>, batches: &[BatchKey]) -> Result<(), AllocError>
+pub(crate) fn add_all(set: &mut IndexSet<BatchKey>, batches: &[BatchKey]) -> Result<(), AllocError>
     ensures { OnOk result (Gathers set.old.keys batches.now set.new.keys) }
 {
     for batch in batches {
@@ -79,7 +54,7 @@ fn add_all(set: &mut IndexSet<BatchKey>, batches: &[BatchKey]) -> Result<(), All
 }
 
 /// The same batches in a list of its own, ascending and each once. Refused for want of memory.
-fn ascending(alloc: Global, batches: &[BatchKey]) -> Result<Vec<BatchKey>, AllocError>
+pub(crate) fn ascending(alloc: Global, batches: &[BatchKey]) -> Result<Vec<BatchKey>, AllocError>
     ensures { IfOk result (λ list. IsAscendingList list.items (Contains batches.now)) }
 {
     let mut list: Vec<BatchKey> = batches.iter().map(BatchKey::copy).collect(alloc)?;

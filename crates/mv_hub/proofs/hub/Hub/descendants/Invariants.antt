@@ -1,9 +1,9 @@
 use Rattle.mv_hub.proofs.Words.{linked_to, ◌-◌}
 use Rattle.mv_hub.proofs.SearchLemmas.{IsSearching}
-use Rattle.mv_hub.proofs.trail.AuditTrail.descendants.Given as goal
+use Rattle.mv_hub.proofs.hub.Hub.descendants.Given as goal
 
 abbrev pub invariant-loop-next : goal.invariant-loop-next
-invariant-loop-next l = IsSearching (linked_to l.self) l.batch l.next l.reached.keys
+invariant-loop-next l = IsSearching (linked_to l.self.entries) l.batch l.next l.reached.keys
 
 -- a set never has so many members
 abbrev pub decreases-loop-next : goal.decreases-loop-next

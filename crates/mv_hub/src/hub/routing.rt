@@ -109,6 +109,7 @@ impl Hub {
     ///
     /// The first of these that holds is the fault: H4, there is no such party; H5, a link has no room for what it would
     /// gain, the least such; H7, memory was refused.
+    #[tactic(auto, using(crate::proofs::HubLemmas::reached_below, crate::proofs::HubLemmas::reach_listed))]
     pub fn route(
         &mut self,
         from: Party,

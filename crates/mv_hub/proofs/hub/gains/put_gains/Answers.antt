@@ -27,4 +27,4 @@ loop-to-preserved c =
 
 -- no party is left
 pub returns : goal.returns
-returns c = row-same (λ to lt. grind (arith, c.in_default.ensures.sets to)) c.loop-to.invariant.row
+returns c = grind (arith, row-same)

@@ -18,7 +18,6 @@ use mv_pairs::PairTable;
 use std::alloc::{AllocError, Global};
 use std::marker::Model;
 
-mod gains;
 mod links;
 mod routing;
 mod targets;

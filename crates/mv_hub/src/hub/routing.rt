@@ -1,36 +1,36 @@
 //! How a message is routed. Only the links that gain something are looked at: those to the parties that it reaches, and
 //! that of its sender to itself.
 
-ghost use Rattle.std.specs.Prelude.{◌≡◌, ◌+◌, ◌<◌, length, None, Some, replicate, IfOk, IfErr, OnOk, OnErr};
-ghost use Rattle.mv_hub.specs.Words.{NUMBER_LIMIT, parties_in};
+ghost use Rattle.std.specs.Prelude.{◌≡◌, ◌+◌, ◌<◌, ℕ, [], ◌∷◌, true, length, None, Some, replicate, IfOk, IfErr, OnOk, OnErr};
+ghost use Rattle.mv_hub.specs.Words.{HasRoom, IsSquare, NUMBER_LIMIT, has_party, parties_in};
 ghost use Rattle.mv_hub.specs.Record.{routed_count};
-ghost use Rattle.mv_hub.specs.Targets.{reach};
+ghost use Rattle.mv_hub.specs.Targets.{is_query, reach};
 ghost use Rattle.mv_link.specs.Fault.{FailsBy};
 ghost use Rattle.mv_hub.specs.Hub.{is_busy, busy_party, route_fault, with_routed};
-ghost use Rattle.mv_hub.specs.inside.Kept.{IsRouting};
+ghost use Rattle.mv_hub.specs.inside.Kept.{IsRouting, PushesItems, PushesRow, gain_of, link_at};
 
 use crate::hub::Hub;
-use crate::hub::gains::put_gains;
 use crate::{Entry, RouteFault};
-use mv_link::{PartySet, Reached};
+use mv_link::{Item, Outgoing, PartySet, Reached};
 use mv_message::{Message, Party, Shared};
+use mv_pairs::PairTable;
 use std::alloc::{AllocError, Global};
 
 /// How the next message of a party is routed.
 #[derive(Drop)]
-pub(super) struct Routing<'a> {
+struct Routing<'a> {
     /// Whose message it is.
-    pub(super) from: Party,
+    from: Party,
     /// The message.
-    pub(super) message: &'a Message,
+    message: &'a Message,
     /// Its number among the messages of the party, from one.
-    pub(super) k: u32,
+    k: u32,
     /// Its place in the record, from one.
-    pub(super) stamp: u32,
+    stamp: u32,
     /// Whether its sender gets a receipt: its link to itself is open.
-    pub(super) receipted: bool,
+    receipted: bool,
     /// The parties that it reaches.
-    pub(super) reached: PartySet,
+    reached: PartySet,
 }
 
 impl Hub {
@@ -63,7 +63,7 @@ impl Hub {
     }
 
     /// How the next message of a party is routed, or why it is not, memory aside.
-    #[tactic(auto, unfolding(crate::specs::Hub::route_fault))]
+    #[tactic(auto, using(crate::proofs::HubLemmas::reached_of), unfolding(crate::specs::Hub::route_fault))]
     fn next_routing<'a>(&self, from: Party, message: &'a Message) -> Result<Routing<'a>, RouteFault>
         requires { length self.now.entries < NUMBER_LIMIT }
         ensures from { IfOk result (λ routing. routing.from ≡ from) }
@@ -76,13 +76,14 @@ impl Hub {
         if from >= self.parties().len() {
             return Err(RouteFault::StrangerParty);
         }
+        let open = self.open_links[from as usize];
         let routing = Routing {
             from,
             message,
             k: self.routed_count(from) + 1,
             stamp: self.record().len() as u32 + 1,
             receipted: self.is_open(from, from),
-            reached: self.reached(from, message),
+            reached: self.targets(from, message).and(open),
         };
         match self.busy_party(&routing) {
             Some(to) => Err(RouteFault::Busy(to)),
@@ -149,4 +150,58 @@ fn shares_of(
         shares.push_reserved(message.share()?);
     }
     Ok(shares)
+}
+
+/// Pushes an item on a link that has room for it.
+fn put_one(link: &mut Outgoing, item: Item)
+    requires { HasRoom link.old 1 }
+    ensures { PushesItems (item ∷ []) link.old link.new }
+{
+    // A push is always taken.
+    drop(link.push(item));
+}
+
+/// Whether a message asks about a pack.
+fn is_query(message: &Message) -> bool
+    ensures { result ≡ is_query message.now }
+{
+    matches!(message, Message::Query { .. })
+}
+
+/// Pushes what a routing puts on the links of its sender: the receipt, on the link to itself while that is open, and then the message for each
+/// party that it reaches. Nothing of this can fail.
+fn put_gains(
+    links: &mut PairTable<Outgoing>,
+    routing: &Routing<'_>,
+    mut shares: Vec<Shared<Message>>,
+)
+    requires square { IsSquare (length links.old) links.old }
+    requires from { routing.now.from < length links.old }
+    requires within { (to : ℕ) → has_party routing.now.reached to ≡ true → to < length links.old }
+    requires shares { shares.items
+        ≡ replicate (length (parties_in routing.now.reached)) routing.now.message.now }
+    requires room { (to : ℕ) → to < length links.old
+        → HasRoom (link_at links.old routing.now.from to)
+        (length (gain_of routing.now to)) }
+    ensures { PushesRow (length links.old) routing.now.from (gain_of routing.now)
+        links.old links.new }
+{
+    if routing.receipted {
+        let receipt = Item::Receipt {
+            k: routing.k,
+            reach: Reached::of(routing.reached),
+            query: is_query(routing.message),
+        };
+        put_one(links.at_mut(routing.from, routing.from), receipt);
+    }
+    let mut rest = routing.reached;
+    while let Some(to) = rest.pop_first() {
+        let Some(message) = shares.pop() else {
+            // There is one for each party that is reached.
+            unreachable!();
+        };
+        let (k, stamp) = (routing.k, routing.stamp);
+        let item = Item::Carried { k, stamp, message };
+        put_one(links.at_mut(routing.from, to), item);
+    }
 }

@@ -1,7 +1,7 @@
 //! Whom a message is for.
 
-ghost use Rattle.std.specs.Prelude.{◌≡◌, ◌<◌, ◌≤◌, ◌&&◌, ℕ, length, nat_lt};
-ghost use Rattle.mv_hub.specs.Targets.{serves_product, is_reached, is_target};
+ghost use Rattle.std.specs.Prelude.{◌≡◌, ◌<◌, ◌&&◌, ℕ, length, nat_lt};
+ghost use Rattle.mv_hub.specs.Targets.{serves_product, is_target};
 ghost use Rattle.mv_link.specs.PartySets.{has_party};
 
 use crate::hub::Hub;
@@ -20,7 +20,7 @@ impl Hub {
 
     /// The parties that a message from a party is for.
     #[tactic(auto, unfolding(crate::specs::Targets::is_target))]
-    fn targets(&self, from: Party, message: &Message) -> PartySet
+    pub(super) fn targets(&self, from: Party, message: &Message) -> PartySet
         requires { from < PARTIES_LIMIT }
         ensures { (to : ℕ) → has_party result to ≡ (nat_lt to (length self.now.parties)
             && is_target self.now.parties self.now.entries from message.now to) }
@@ -42,17 +42,5 @@ impl Hub {
             Message::Query { key } => self.servers(&key.gtin).without(from),
             Message::Answer { asker, .. } => self.parties().alone(*asker),
         }
-    }
-
-    /// The parties that a message from a party reaches: of those that it is for, those to which the link is open.
-    #[tactic(auto, using(crate::proofs::HubLemmas::reached_of))]
-    pub(super) fn reached(&self, from: Party, message: &Message) -> PartySet
-        requires { from < length self.now.parties }
-        ensures parties { (to : ℕ) → has_party result to
-            ≡ is_reached self.now.parties self.now.entries from message.now to }
-        ensures few { length self.now.parties ≤ PARTIES_LIMIT }
-    {
-        let open = self.open_links[from as usize];
-        self.targets(from, message).and(open)
     }
 }

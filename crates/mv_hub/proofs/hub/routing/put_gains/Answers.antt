@@ -1,9 +1,17 @@
-use Rattle.mv_hub.proofs.Words.{◌∙◌, length, sym, ap, append_assoc, arith, replicate, and_parts, carried_by, new_sending, parties_in}
-use Rattle.mv_hub.proofs.LinksLemmas.{row-push, carried-more, pop-equal, row-same}
-use Rattle.mv_hub.proofs.hub.gains.put_gains.Goals as goal
+use Rattle.mv_hub.proofs.Words.{append-nil, refl, [], receipt_to, ◌∙◌, length, sym, ap, append_assoc, arith, replicate, and_parts, carried_by, new_sending, parties_in}
+use Rattle.mv_hub.proofs.LinksLemmas.{row-none, row-push, carried-more, pop-equal, row-same}
+use Rattle.mv_hub.proofs.hub.routing.put_gains.Goals as goal
+use Rattle.mv_hub.proofs.hub.routing.put_gains.Goals.{then-routing, else-routing}
 
 pub loop-to-init : goal.loop-to-init
-loop-to-init c = grind arith
+loop-to-init c = elim c.if-routing.branch [
+  | then-routing w ↦
+      let pushed = rw (← w.at_mut.ensures.value (new_sending 0), w.is_query.ensures, w.of.ensures) at w.put_one.ensures in
+      let row = row-push {h = receipt_to c.args.routing.now} (row-none {g = λ to. []} c.requires.square (λ to lt. refl)) c.requires.from c.requires.from pushed
+      (λ to lt. grind (arith, w.if-routing)) in
+      grind (arith, append-nil, w.links-is, row)
+  | else-routing w ↦ grind (arith, append-nil, w.links-is, w.if-routing)
+]
 
 -- the least party of those that are left gets the message
 pub loop-to-preserved : goal.loop-to-preserved
@@ -17,7 +25,7 @@ loop-to-preserved c =
     let shares = sym c.in-Some-pop.ensures.items ∙ before.each
     ∙ ap (λ l. replicate (length l) routing.message.now) c.in-Some.ensures.list in
     let popped = pop-equal (length (parties_in left)) routing.message.now c.in-Some-pop.message c.pop.new.self.items shares in
-    let pushed = rw (popped.1, ← c.at_mut.ensures.value (new_sending 0)) at c.put_one.ensures in
+    let pushed = rw (popped.1, ← c.at_mut-in-Some.ensures.value (new_sending 0)) at c.put_one-in-Some.ensures in
     record {
       row = row-push before.row c.requires.from (c.requires.within to here) pushed
           (λ other lt. grind (arith, append_assoc, carried-more routing.reached c.loop-to.rest left (carried_by routing) to other here sets.1 (sets.2 other)));

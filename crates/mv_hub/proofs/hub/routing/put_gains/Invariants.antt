@@ -1,5 +1,5 @@
 use Rattle.mv_hub.proofs.Words.{◌≡◌, ℕ, ◌&&◌, not, true, cond, ◌∷◌, ◌++◌, length, replicate, [], PushesRow, carried_by, has_party, parties_in, receipt_to}
-use Rattle.mv_hub.proofs.hub.gains.put_gains.Given as goal
+use Rattle.mv_hub.proofs.hub.routing.put_gains.Given as goal
 
 abbrev pub invariant-loop-to : goal.invariant-loop-to
 invariant-loop-to l = record {

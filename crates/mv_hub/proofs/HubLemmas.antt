@@ -1,7 +1,75 @@
--- What the hub keeps, through a routing and a relay.
-use Rattle.mv_hub.proofs.Words.{◌≡◌, ℕ, ◌+◌, ◌<◌, ◌≤◌, Bool, true, false, ◌&&◌, ◌||◌, not, List, [], ◌∷◌, ◌++◌, length, get_or, set, cond, None, sym, refl, ap, ◌∙◌, arith, inl, inr, append-nil, ◌↔◌, length-set, ◌==◌, nat_lt, find, replicate, rules, All, Carried, Carries, Closed, Entry, HasRoom, HubState, IsKept, IsRouting, IsSquare, Item, Message, PARTIES_LIMIT, PartySet, PushesItems, PushesRow, Receipt, Routed, Sending, busy_party, cases_eq, cell, cell-map, elements, eq-eqb, find-none_at, find-those, gain_of, gained, get_or-replicate, get_or_default, has_party, is_busy, is_open, is_query, is_reached, is_target, items_on, length-replicate, link_at, link_items, listed-in, nat_tests, new_hub, new_sending, next_items, parties_in, put, put-each_pair, put-map, reach, routed_count, sent_of, sent_table, square-put, table-all}
+-- What one more entry at the end of a record changes, links that gain items, and what the hub keeps, through a routing and a relay.
+use Rattle.mv_hub.proofs.Words.{All, Bool, Carried, Carries, Closed, Entry, HasRoom, HubState, IsKept, IsRouting, IsSquare, Item, List, Message, None, PARTIES_LIMIT, PartySet, PushesItems, PushesRow, Receipt, Routed, Sending, [], ap, append-nil, append_assoc, arith, busy_party, cases_eq, cell, cell-map, cell-put_other, cell-put_same, common_steps, cond, elements, eq-eqb, eqb, false, find, find-none_at, find-those, gain_of, gained, get_or, get_or-replicate, get_or_default, has_party, inl, inr, is_busy, is_open, is_query, is_reached, is_target, items_on, length, length-replicate, length-set, link_at, link_items, link_items_after, listed-in, nat_lt, nat_tests, new_hub, new_sending, next_items, not, parties_in, put, put-each_pair, put-map, put-map_same, reach, refl, replicate, replicate_more, routed_count, routed_from, rules, same_from_push, sent_of, sent_table, set, square-put, sym, table-all, true, ℕ, ◌&&◌, ◌++◌, ◌+◌, ◌<◌, ◌==◌, ◌||◌, ◌↔◌, ◌∙◌, ◌∷◌, ◌≡◌, ◌≤◌}
 use Rattle.mv_hub.specs.declared.hub.routing.Routing.{Routing}
-use Rattle.mv_hub.proofs.RecordLemmas.{routed_from-append, is_open-append, link_items-push, gained_other, gained-closed}
+
+pub routed_from-append : (before after : List Entry) (party : ℕ) → routed_from (before ++ after) party ≡ routed_from before party ++ routed_from after party
+routed_from-append [] after party = refl
+routed_from-append (entry ∷ before) after party = grind (arith, routed_from-append before after party)
+
+-- what no entry of two records closes is open
+pub is_open-append : (before after : List Entry) (from to : ℕ) → is_open (before ++ after) from to ≡ (is_open before from to && is_open after from to)
+is_open-append [] after from to = refl
+is_open-append (entry ∷ before) after from to = grind (arith, is_open-append before after from to)
+
+link_items_after-append : (parties : List (List (List ℕ))) (before entries more : List Entry) (from to : ℕ)
+    → link_items_after parties before (entries ++ more) from to
+    ≡ link_items_after parties before entries from to ++ link_items_after parties (before ++ entries) more from to
+link_items_after-append parties before [] more from to = grind (arith, append-nil)
+link_items_after-append parties before (e ∷ entries) more from to = grind (arith, link_items_after-append parties (before ++ e ∷ []) entries more from to, append_assoc)
+
+-- one more entry puts on a link just what it gains
+pub link_items-push : (parties : List (List (List ℕ))) (entries : List Entry) (entry : Entry) (from to : ℕ)
+    → link_items parties (entries ++ entry ∷ []) from to ≡ link_items parties entries from to ++ gained parties entries entry from to
+unfolding link_items
+link_items-push parties entries entry from to = grind (arith, link_items_after-append parties [] entries (entry ∷ []) from to, append-nil)
+
+-- a routed message of another party puts nothing on the link
+pub gained_other : (parties : List (List (List ℕ))) (before : List Entry) (sender k : ℕ) (message : Message) (from to : ℕ)
+    → eqb sender from ≡ false → gained parties before (Routed sender k message) from to ≡ []
+unfolding gained
+gained_other parties before sender k message from to e = rw e refl
+
+-- a closing puts nothing on a link
+pub gained-closed : (parties : List (List (List ℕ))) (before : List Entry) (sender receiver from to : ℕ)
+    → gained parties before (Closed sender receiver) from to ≡ []
+unfolding gained
+gained-closed parties before sender receiver from to = refl
+
+-- no link gains anything
+pub row-none : {n from : ℕ} {g : ℕ → List Item} {old : List (List Sending)} → IsSquare n old → ((to : ℕ) → to < n → g to ≡ []) → PushesRow n from g old old
+row-none square none = grind (arith, append-nil)
+
+-- one link gains these items more
+pub row-push : {n from to : ℕ} {g h : ℕ → List Item} {items : List Item} {old now : List (List Sending)} {link : Sending} → PushesRow n from g old now
+    → from < n → to < n → PushesItems items (link_at now from to) link → ((other : ℕ) → other < n → h other ≡ g other ++ cond (other == to) items [])
+    → PushesRow n from h old (put now from to link)
+row-push {n} {from} {to} {now = now} {link = link} row is_from is_to pushed are = record {
+  square = square-put n now from to link row.square;
+  gained = λ other below. elim (cases_eq other to) [
+    | inl same ↦ grind (arith, common_steps, cell-put_same n now from to link (new_sending 0), row.gained other below, are other below)
+    | inr apart ↦
+        grind (arith, append-nil, nat_tests, cell-put_other now from to from other link (new_sending 0), row.gained other below, are other below)
+  ];
+  others = λ party other apart. grind (arith, cell-put_other now from to party other link (new_sending 0) (inl apart), row.others party other apart);
+  sent = grind (arith, put-map_same (λ v. v.sent) now from to link (new_sending 0) pushed.sent);
+}
+
+-- a row, said in other words
+pub row-same : {n from : ℕ} {g h : ℕ → List Item} {old new : List (List Sending)} → ((to : ℕ) → to < n → g to ≡ h to) → PushesRow n from g old new
+    → PushesRow n from h old new
+row-same same row = grind arith
+
+-- one more party of those that are reached gets the item
+pub carried-more : (reached rest left : PartySet) (item : Item) (to other : ℕ) → has_party reached to ≡ true → has_party rest to ≡ true
+    → has_party left other ≡ (has_party rest other && not (other == to))
+    → cond (has_party reached other && not (has_party rest other)) (item ∷ []) [] ++ cond (other == to) (item ∷ []) []
+    ≡ cond (has_party reached other && not (has_party left other)) (item ∷ []) []
+carried-more reached rest left item to other is_reached is_left without = grind arith
+
+-- what was taken off the end of a list of equal members is one of them, and the others are left
+pub pop-equal : {A : Type 0} (n : ℕ) (same last : A) (rest : List A) → rest ++ last ∷ [] ≡ same ∷ replicate n same
+    → (rest ≡ replicate n same) × (last ≡ same)
+pop-equal n same last rest e = same_from_push rest (replicate n same) last same (grind (arith, e, replicate_more n same))
 
 -- what the hub is seen as
 abbrev pub view : List (List (List ℕ)) → ℕ → List Entry → List (List Sending) → HubState

@@ -178,7 +178,7 @@ impl Hub {
 
     /// The batches that descend from a batch: those to which a chain of one or more links leads from it, ascending and each
     /// once. The batch itself is among them only where a chain comes back to it. Refused for want of memory.
-    #[tactic(auto, using(crate::proofs::SearchLemmas::searching_start, crate::proofs::SearchLemmas::searching_more))]
+    #[tactic(auto, using(crate::proofs::TrailLemmas::searching_start, crate::proofs::TrailLemmas::searching_more))]
     pub fn descendants(&self, batch: &BatchKey) -> Result<Vec<BatchKey>, AllocError>
         ensures { IfOk result (λ list.
             IsAscendingList list.items (IsDescendant self.now.entries batch.now)) }

@@ -1,6 +1,5 @@
 use Rattle.mv_hub.proofs.Words.{append-nil, arith, rules}
-use Rattle.mv_hub.proofs.ListingLemmas.{text-same}
-use Rattle.mv_hub.proofs.TrailLemmas.{tables-push}
+use Rattle.mv_hub.proofs.TrailLemmas.{text-same, tables-push}
 use Rattle.mv_hub.proofs.trail.add_to_tables.Goals as goal
 
 pub returns-in_default-clause-ok : goal.returns-in_default-clause-ok

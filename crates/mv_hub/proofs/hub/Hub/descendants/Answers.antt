@@ -1,6 +1,5 @@
 use Rattle.mv_hub.proofs.Words.{Contains, IfOk-weaker, IsAscendingList, IsDescendant, arith, linked_to, sym}
-use Rattle.mv_hub.proofs.ListingLemmas.{listed-same}
-use Rattle.mv_hub.proofs.SearchLemmas.{searching_end}
+use Rattle.mv_hub.proofs.TrailLemmas.{listed-same, searching_end}
 use Rattle.mv_hub.proofs.hub.Hub.descendants.Goals as goal
 
 pub returns : goal.returns

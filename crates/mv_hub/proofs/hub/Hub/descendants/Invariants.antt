@@ -1,5 +1,5 @@
 use Rattle.mv_hub.proofs.Words.{linked_to, ◌-◌}
-use Rattle.mv_hub.proofs.SearchLemmas.{IsSearching}
+use Rattle.mv_hub.proofs.TrailLemmas.{IsSearching}
 use Rattle.mv_hub.proofs.hub.Hub.descendants.Given as goal
 
 abbrev pub invariant-loop-next : goal.invariant-loop-next

@@ -1,6 +1,5 @@
 use Rattle.mv_hub.proofs.Words.{arith}
-use Rattle.mv_hub.proofs.LinksLemmas.{row-same}
-use Rattle.mv_hub.proofs.HubLemmas.{rooms, next-gain, kept-routed}
+use Rattle.mv_hub.proofs.HubLemmas.{row-same, rooms, next-gain, kept-routed}
 use Rattle.mv_hub.proofs.hub.Hub.route.Goals as goal
 
 -- no link is busy, so each has room

@@ -1,5 +1,5 @@
 use Rattle.mv_hub.proofs.Words.{append-nil, refl, [], receipt_to, ◌∙◌, length, sym, ap, append_assoc, arith, replicate, and_parts, carried_by, new_sending, parties_in}
-use Rattle.mv_hub.proofs.LinksLemmas.{row-none, row-push, carried-more, pop-equal, row-same}
+use Rattle.mv_hub.proofs.HubLemmas.{row-none, row-push, carried-more, pop-equal, row-same}
 use Rattle.mv_hub.proofs.hub.routing.put_gains.Goals as goal
 use Rattle.mv_hub.proofs.hub.routing.put_gains.Goals.{then-routing, else-routing}
 

@@ -1,5 +1,5 @@
 use Rattle.mv_hub.proofs.Words.{arith, common_steps, take_more}
-use Rattle.mv_hub.proofs.MarketTableLemmas.{noted-none, noted-more}
+use Rattle.mv_hub.proofs.PartiesLemmas.{noted-none, noted-more}
 use Rattle.mv_hub.proofs.market_table.MarketTable.of.Goals as goal
 
 pub loop-party-init : goal.loop-party-init

@@ -44,13 +44,13 @@ pub row-push : {n from to : ℕ} {g h : ℕ → List Item} {items : List Item} {
     → from < n → to < n → PushesItems items (link_at now from to) link → ((other : ℕ) → other < n → h other ≡ g other ++ cond (other == to) items [])
     → PushesRow n from h old (put now from to link)
 row-push {n} {from} {to} {now = now} {link = link} row is_from is_to pushed are = record {
-  square = square-put n now from to link row.square;
+  square = search square-put;
   gained = λ other below. elim (cases_eq other to) [
     | inl same ↦ grind (arith, common_steps, cell-put_same n now from to link (new_sending 0), row.gained other below, are other below)
     | inr apart ↦
         grind (arith, append-nil, nat_tests, cell-put_other now from to from other link (new_sending 0), row.gained other below, are other below)
   ];
-  others = λ party other apart. grind (arith, cell-put_other now from to party other link (new_sending 0) (inl apart), row.others party other apart);
+  others = grind (arith, cell-put_other);
   sent = grind (arith, put-map_same (λ v. v.sent) now from to link (new_sending 0) pushed.sent);
 }
 
@@ -58,13 +58,6 @@ row-push {n} {from} {to} {now = now} {link = link} row is_from is_to pushed are 
 pub row-same : {n from : ℕ} {g h : ℕ → List Item} {old new : List (List Sending)} → ((to : ℕ) → to < n → g to ≡ h to) → PushesRow n from g old new
     → PushesRow n from h old new
 row-same same row = grind arith
-
--- one more party of those that are reached gets the item
-pub carried-more : (reached rest left : PartySet) (item : Item) (to other : ℕ) → has_party reached to ≡ true → has_party rest to ≡ true
-    → has_party left other ≡ (has_party rest other && not (other == to))
-    → cond (has_party reached other && not (has_party rest other)) (item ∷ []) [] ++ cond (other == to) (item ∷ []) []
-    ≡ cond (has_party reached other && not (has_party left other)) (item ∷ []) []
-carried-more reached rest left item to other is_reached is_left without = grind arith
 
 -- what was taken off the end of a list of equal members is one of them, and the others are left
 pub pop-equal : {A : Type 0} (n : ℕ) (same last : A) (rest : List A) → rest ++ last ∷ [] ≡ same ∷ replicate n same
@@ -139,28 +132,18 @@ carries-relayed window items link carries = search rules
 
 module _ {parties : List (List (List ℕ))} {window : ℕ} {entries : List Entry} {routed_counts : List ℕ} {open_links : List PartySet}
     {links : List (List Sending)} (kept : IsKept parties window entries routed_counts open_links links) where
-  -- a link that gains nothing is not busy
-  idle : (from to : ℕ) (message : Message) → from < length parties → to < length parties
-      → (is_reached parties entries from message to || ((to == from) && is_open entries from from)) ≡ false
-      → is_busy (view parties window entries links) from message to ≡ false
-  idle from to message is_from is_to none =
-      grind (arith, next_items_are (view parties window entries links) from to message, kept.carries from to is_from is_to, sent_at links from to, busy_is)
-
-  -- so the least busy party is the first of those whose links gain something
+  -- a link that gains nothing is not busy, so the least busy party is the first of those whose links gain something
   pub busy_among : (from : ℕ) (message : Message) (gaining : PartySet) → from < length parties
       → ((to : ℕ) → has_party gaining to ≡ (is_reached parties entries from message to || ((to == from) && is_open entries from from)))
       → busy_party (view parties window entries links) from message
       ≡ find (is_busy (view parties window entries links) from message) (parties_in gaining)
   unfolding busy_party
   busy_among from message gaining is_from gains =
-      let busy = is_busy (view parties window entries links) from message in
-      let test : ℕ → Bool = λ (to : ℕ). is_reached parties entries from message to || ((to == from) && is_open entries from from) in
-      let listed = listed-in gaining test (length parties) kept.few (λ to lt. gains to) (λ to beyond. gains to ∙ none to beyond) in
-      sym (ap (find busy) listed ∙ find-those busy test (length parties) (λ to lt nothing. idle from to message is_from lt nothing))
-    where
-      none : (to : ℕ) → length parties ≤ to
-          → (is_reached parties entries from message to || ((to == from) && is_open entries from from)) ≡ false
-      none to beyond = grind (arith, nat_tests, reached_below parties entries from message to)
+      let hub = view parties window entries links in
+      let listed = listed-in gaining (has_party gaining) (length parties) kept.few (λ to lt. refl)
+      (λ to beyond. grind (arith, nat_tests, gains to, reached_below parties entries from message to)) in
+      rw listed (sym (find-those (is_busy hub from message) (has_party gaining) (length parties) (λ to lt nothing.
+      grind (arith, nothing, gains to, next_items_are hub from to message, kept.carries from to is_from lt, sent_at links from to, busy_is))))
 
   -- where no link is busy, each has room for its gain
   pub rooms : (from : ℕ) (message : Message) → from < length parties → busy_party (view parties window entries links) from message ≡ None
@@ -177,19 +160,7 @@ module _ {parties : List (List (List ℕ))} {window : ℕ} {entries : List Entry
       → PushesRow (length parties) from (next_items (view parties window entries links) from message) links new
       → IsKept parties window (entries ++ Routed from (routed_count entries from + 1) message ∷ []) (set routed_counts from (routed_count entries from + 1)) open_links new
   kept-routed new from message lt none row =
-      record {
-        some = kept.some;
-        few = kept.few;
-        counted = grind (arith, length-set);
-        counts = grind (arith, elements, routed_from-append);
-        opened = kept.opened;
-        opens = λ a b none is_a is_b. grind (arith, kept.opens a b none is_a is_b, is_open-append);
-        square = row.square;
-        carries = λ party to is_party is_to. elim (cases_eq party from) [
-          | inl same ↦ grind (arith, carries-gain, link_items-push, kept.carries from to lt is_to, row.gained to is_to, rooms from message lt none to is_to)
-          | inr other ↦ grind (arith, row.others party to other, link_items-push, gained_other, append-nil {A = Item}, kept.carries party to is_party is_to)
-        ];
-      }
+      grind (arith, elements, append-nil {A = Item}, routed_from-append, is_open-append, link_items-push, gained_other, carries-gain, rooms from message lt none)
 
   -- all that the hub keeps, once a link was closed
   pub kept_closed : (from to : ℕ) (opened rest : PartySet) → from < length parties → opened ≡ get_or open_links from opened

@@ -29,22 +29,6 @@ last_or-append : {A : Type 0} (o : Option A) (xs ys : List A) → last_or o (xs 
 last_or-append o [] ys = refl
 last_or-append o (x ∷ xs) ys = last_or-append (Some x) xs ys
 
--- the last product, the batches and the links of a product once one more entry stands at the end
-last_product-push : (entries : List Entry) (entry : Entry) (gtin : List ℕ)
-    → last_product (entries ++ entry ∷ []) gtin ≡ option_or (product_in gtin entry) (last_product entries gtin)
-unfolding last_product
-last_product-push entries entry gtin = grind (arith, filter_map-append (product_in gtin) entries (entry ∷ []), last_or-append {A = Product})
-
-batches-push : (entries : List Entry) (entry : Entry) (gtin : List ℕ)
-    → batches_of (entries ++ entry ∷ []) gtin ≡ insert_all is_same_listing (batches_of entries gtin) (option_to_list (listing_in gtin entry))
-unfolding batches_of
-batches-push entries entry gtin = grind (arith, filter_map-append (listing_in gtin) entries (entry ∷ []), fold-append)
-
-links-push : (entries : List Entry) (entry : Entry) (batch : BatchKey)
-    → linked_to (entries ++ entry ∷ []) batch ≡ linked_to entries batch ++ option_to_list (link_in batch entry)
-unfolding linked_to
-links-push entries entry batch = grind (arith, filter_map-append (link_in batch) entries (entry ∷ []))
-
 -- what is known of a product once an entry gives it a description or a batch
 abbrev pub known : Option Catalogue → Option Product → Option Listing → Option Catalogue
 known catalogue None None = catalogue
@@ -62,25 +46,25 @@ pub tables-push : (entries : List Entry) (entry : Entry) (old new : List (List �
     → ((gtin : List ℕ) → catalogue_in new gtin ≡ known (catalogue_in old gtin) (product_in gtin entry) (listing_in gtin entry))
     → ((batch : BatchKey) → linked_in new_links batch ≡ linked_in old_links batch ++ option_to_list (link_in batch entry))
     → AreTables entries old old_links → AreTables (entries ++ entry ∷ []) new new_links
-tables-push entries entry old new old_links new_links products links tables = search (rules, last_product-push, batches-push, links-push)
+unfolding last_product batches_of linked_to
+tables-push entries entry old new old_links new_links products links tables = record {
+  are_catalogues = λ gtin. grind (arith, products gtin, tables.are_catalogues gtin, filter_map-append (product_in gtin) entries (entry ∷ []),
+  filter_map-append (listing_in gtin) entries (entry ∷ []), fold-append, last_or-append {A = Product});
+  are_links = λ batch. grind (arith, links batch, tables.are_links batch, filter_map-append (link_in batch) entries (entry ∷ []));
+}
 
 one-more : (xs : List BatchKey) (x batch : BatchKey) → Contains (xs ++ x ∷ []) batch ↔ (Contains xs batch ⊎ (x ≡ batch))
 one-more xs x batch = grind (arith, elements)
 
--- what a set has once a batch was put into it
 one-link : (xs : List BatchKey) (x batch : BatchKey) → Contains (insert_key is_same_batch xs x) batch ↔ (Contains xs batch ⊎ (x ≡ batch))
 one-link xs x batch = grind (arith, elements, Contains-from_any batch-same x xs)
 
 -- one more batch was
 pub gathers_more : (old more now : List BatchKey) (x : BatchKey) → Gathers old more now → Gathers old (more ++ x ∷ []) (insert_key is_same_batch now x)
 gathers_more old more now x gathers = record {
-  behind = by (list_any (is_same_batch x) now);
+  behind = grind (arith, common_steps, gathers.behind);
   members = λ batch. grind (arith, one-link now x batch, one-more more x batch, gathers.members batch);
 }
-  where
-    by : (b : Bool) → (rest : List BatchKey) × (cond b now (now ++ x ∷ []) ≡ old ++ rest)
-    by true = gathers.behind
-    by false = (gathers.behind.0 ++ x ∷ [], grind (arith, append_assoc, gathers.behind.1))
 
 -- Some batches were reached, and the batches that are linked to the first of them too.
 pub record IsSearching (links : BatchKey → List BatchKey) (batch : BatchKey) (next : ℕ) (reached : List BatchKey) : Type 0 where
@@ -117,7 +101,7 @@ searching_more links batch next reached new current search below at gathers = re
   ];
   begun = λ other. grind (arith, gathers.members other, search.begun other);
   closed = λ k from other lt within is linked.
-      let here : get_or reached k from ≡ from = grind (arith, common_steps, gathers.behind.1) in
+      let here : get_or reached k from ≡ from = grind (arith, common_steps, gathers.behind) in
       grind (arith, linked, gathers.members other, search.closed k from other, get_or_default reached k from current);
 }
 

@@ -1,6 +1,6 @@
 -- What the hub keeps beside its record, how that follows from the record, how an entry changes its tables, and what a routing puts on
 -- the links of its sender.
-use Rattle.std.specs.Prelude.{List, [], ◌∷◌, ◌++◌, ◌+◌, ◌==◌, option_to_list, ◌≡◌, ◌↔◌, ◌⊎◌, Contains, Option, Some, None, Bool, true, false, if◌then◌else◌, ℕ, bytes_eq, length, slice_index, unwrap_or, ◌≢◌, ◌<◌, ◌≤◌, ◌&&◌, not, map, slice_index_or}
+use Rattle.std.specs.Prelude.{List, [], ◌∷◌, ◌++◌, ◌+◌, ◌==◌, option_to_list, ◌≡◌, ◌↔◌, ◌⊎◌, Contains, Option, Some, None, Bool, true, false, if◌then◌else◌, ℕ, bytes_eq, length, slice_index, unwrap_or, ◌≢◌, ◌<◌, ◌≤◌, ◌&&◌, not, map, slice_index_or, take}
 use Rattle.mv_hub.specs.Words.{BatchKey, IsEquivalence, Message, Product, Upload, and_equiv, insert_all, is_same_batch, nat_eq_equiv, nat_list_eq_equiv, on_equiv, option_map_or, option_or, Carried, EndsWithHeld, Entry, HasRoom, IsSquare, Item, PARTIES_LIMIT, Receipt, Sending, cell, has_party, new_sending, parties_in}
 use Rattle.mv_hub.specs.declared.catalogue.Catalogue.{Catalogue}
 use Rattle.std.specs.Map.{lookup}
@@ -29,7 +29,7 @@ linked_in table batch = option_map_or (λ batches. batches.items) (lookup (is_sa
 
 -- more batches were put behind those of a list, each unless it was there
 pub record Gathers (old more new : List BatchKey) : Type 0 where
-  pub behind : (rest : List BatchKey) × (new ≡ old ++ rest)
+  pub behind : take (length old) new ≡ old
   pub members : (batch : BatchKey) → Contains new batch ↔ (Contains old batch ⊎ Contains more batch)
 
 -- nothing is known of a product

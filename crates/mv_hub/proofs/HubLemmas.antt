@@ -127,9 +127,6 @@ carries-gain : (window : ℕ) (items more : List Item) (old new : Sending) → C
     → HasRoom old (length more) → Carries window (items ++ more) new
 carries-gain window items more old new carries gains room = grind arith
 
-carries-relayed : (window : ℕ) (items : List Item) (link : Sending) → Carries window items link → Carries window items (record link { sent = link.sent + 1 })
-carries-relayed window items link carries = search rules
-
 module _ {parties : List (List (List ℕ))} {window : ℕ} {entries : List Entry} {routed_counts : List ℕ} {open_links : List PartySet}
     {links : List (List Sending)} (kept : IsKept parties window entries routed_counts open_links links) where
   -- a link that gains nothing is not busy, so the least busy party is the first of those whose links gain something
@@ -171,10 +168,7 @@ module _ {parties : List (List (List ℕ))} {window : ℕ} {entries : List Entry
   -- all that the hub keeps, once an item of a link was relayed
   pub kept_relayed : (from to : ℕ) (old new : Sending) → from < length parties → to < length parties → link_at links from to ≡ old
       → new ≡ record old { sent = old.sent + 1 } → IsKept parties window entries routed_counts open_links (put links from to new)
-  kept_relayed from to old new is_from is_to at e =
-      let carried = put-each_pair (λ i j v. i < length parties → j < length parties → Carries window (link_items parties entries i j) v) links from to new
-      (new_sending 0) (λ _ _. rw e (carries-relayed window _ old (rw at at (kept.carries from to is_from is_to)))) kept.carries in
-      search (rules, square-put, carried)
+  kept_relayed from to old new is_from is_to at e = grind (arith, elements, square-put)
 
 -- a hub where nothing has happened keeps what it should
 pub kept-new : (parties : List (List (List ℕ))) (window : ℕ) (all : PartySet) (links : List (List Sending))

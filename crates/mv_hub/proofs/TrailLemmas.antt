@@ -42,17 +42,21 @@ pub linked-put : (old new : LinkTable) (before : BatchKey) (written : Vec BatchK
 linked-put old new before written more put is other = grind (arith, put other, batch-same before other, append-nil {A = BatchKey})
 
 -- the tables once one more entry stands at the end, where they changed by what that says
-pub tables-push : (entries : List Entry) (entry : Entry) (old new : List (List ℕ × Catalogue)) (old_links new_links : LinkTable)
+pub tables_push : (entries : List Entry) (entry : Entry) (old new : List (List ℕ × Catalogue)) (old_links new_links : LinkTable)
     → ((gtin : List ℕ) → catalogue_in new gtin ≡ known (catalogue_in old gtin) (product_in gtin entry) (listing_in gtin entry))
     → ((batch : BatchKey) → linked_in new_links batch ≡ linked_in old_links batch ++ option_to_list (link_in batch entry))
     → AreTables entries old old_links → AreTables (entries ++ entry ∷ []) new new_links
 unfolding last_product batches_of linked_to
-tables-push entries entry old new old_links new_links products links tables = record {
+tables_push entries entry old new old_links new_links products links tables = record {
   are_catalogues = λ gtin. grind (arith, products gtin, tables.are_catalogues gtin, filter_map-append (product_in gtin) entries (entry ∷ []),
   filter_map-append (listing_in gtin) entries (entry ∷ []), fold-append, last_or-append {A = Product});
   are_links = λ batch. grind (arith, links batch, tables.are_links batch, filter_map-append (link_in batch) entries (entry ∷ []));
 }
 
+-- what the tables rest on
+pub ruleset table_steps = (tables_push, append-nil)
+
+-- what a list has with one member more
 one-more : (xs : List BatchKey) (x batch : BatchKey) → Contains (xs ++ x ∷ []) batch ↔ (Contains xs batch ⊎ (x ≡ batch))
 one-more xs x batch = grind (arith, elements)
 

@@ -6,7 +6,7 @@ pub use Rattle.mv_hub.specs.declared.fault.HubFault.{HubFault}
 pub use Rattle.mv_hub.specs.declared.fault.HubFault.TheVariants.{AlreadyClosed, NoParty, ServedTwice, StrangerParty, TooMany}
 pub use Rattle.mv_hub.specs.declared.fault.RouteFault.{RouteFault}
 pub use Rattle.mv_link.specs.PartySets.{has_party, parties_in}
-pub use Rattle.mv_link.specs.Sending.{EndsWithHeld, HasRoom, Sending, again_fault, new_sending, relay_fault}
+pub use Rattle.mv_link.specs.Sending.{EndsWithHeld, HasRoom, IsWindow, Sending, again_fault, new_sending, relay_fault}
 pub use Rattle.mv_link.specs.declared.item.Item.{Item}
 pub use Rattle.mv_link.specs.declared.item.Item.TheVariants.{Carried, Receipt}
 pub use Rattle.mv_link.specs.declared.limits.TheConstants.{NUMBER_LIMIT, PARTIES_LIMIT}

@@ -1,10 +1,11 @@
 //! The hub: its record, a link for each ordered pair of parties, and which links are open.
 
 ghost use Rattle.std.specs.Prelude.{◌≡◌, ◌<◌, ◌≤◌, length, Contains, IfOk, option_map};
-ghost use Rattle.mv_hub.specs.Words.{IsSquare, option_copied};
+ghost use Rattle.mv_hub.specs.Words.{IsSquare, IsWindow, PARTIES_LIMIT, new_sending, option_copied};
 ghost use Rattle.mv_hub.specs.Record.{routed_count, last_markets, is_open};
 ghost use Rattle.mv_hub.specs.Catalogue.{catalogue_of};
 ghost use Rattle.mv_hub.specs.BatchLinks.{linked_to, IsDescendant, IsAscendingList};
+ghost use Rattle.mv_hub.specs.Hub.{new_hub, sent_of, items_on};
 ghost use Rattle.mv_hub.specs.inside.Kept.{Carries};
 
 use crate::trail::AuditTrail;
@@ -73,10 +74,6 @@ impl Model for Hub {
 }
 
 impl Hub {
-    ghost use Rattle.mv_link.specs.Sending.{IsWindow, new_sending};
-    ghost use Rattle.mv_link.specs.declared.limits.TheConstants.{PARTIES_LIMIT};
-    ghost use Rattle.mv_hub.specs.Hub.{new_hub, sent_of, items_on};
-
     /// A hub where nothing has happened, whose links keep their last `window` items. Refused for want of memory.
     pub fn new(alloc: Global, parties: Parties, window: u32) -> Result<Hub, AllocError>
         requires { IsWindow window }

@@ -74,6 +74,7 @@ impl Parties {
     }
 
     /// The parties that serve one of these markets.
+    #[tactic(auto, using(crate::proofs::PartiesLemmas::parties_listed))]
     pub fn serving(&self, markets: &[Market]) -> Reach
         ensures { result ≡ serving self.now markets.now }
     {

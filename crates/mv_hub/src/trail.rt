@@ -83,6 +83,7 @@ impl AuditTrail {
 }
 
 /// Puts into the tables what an entry says. Where memory is refused no catalogue and no link has changed.
+#[tactic(auto, using(crate::proofs::TrailLemmas::table_steps))]
 fn add_to_tables(
     alloc: Global,
     catalogues: &mut IndexMap<Gtin, Listed>,

@@ -62,16 +62,13 @@ module _ (st : State) where
   outcome-changes step = grind (arith, nat_tests, nothing, routed, relayed, applied, repeated, closed, dropped, next-number)
 
   -- and so where the outcome is met: want of memory changes nothing
-  meets-changes : (step : Step) (expected : Reply × State) (reply : Reply) (new : State) → Changes st step expected → Meets st expected reply new → Change st step reply new
-  unfolding Meets
-  meets-changes step expected reply new changes met = grind (arith, nothing)
-
   pub step-changes : (step : Step) (reply : Reply) (new : State) → Allows st step reply new → Change st step reply new
-  unfolding Allows
-  step-changes step reply new allowed = meets-changes step (outcome st step) reply new (outcome-changes step) allowed
+  unfolding Allows Meets
+  step-changes step reply new allowed = grind (arith, nothing, outcome-changes step)
 
   pub asked-changes : (party : ℕ) (key : PackKey) (reply : Reply) (new : State) → Meets st (ask st party key) reply new → Change st (Verify party key) reply new
-  asked-changes party key reply new met = meets-changes (Verify party key) (ask st party key) reply new (ask-changes party key) met
+  unfolding Meets
+  asked-changes party key reply new met = grind (arith, nothing, ask-changes party key)
 
 -- where the reply says that nothing has changed, nothing has
 pub refusals_change_nothing : InSteps (λ old reply new. IsTrue (changes_nothing reply) → new ≡ old)
@@ -98,9 +95,8 @@ site-sound : (st : State) (party : ℕ) (site : SiteState) → IsSound st
     → (party < length st.hub.parties → opened_site site ≡ new_site party (length st.hub.parties) st.limits.submissions)
     → (party < length st.hub.parties → IsLawfulAt st.hub party site) → IsSound (with_site st party site)
 site-sound st party site sound same lawful =
-    let of_party = put-each (λ party site. party < length st.hub.parties → IsLawfulAt st.hub party site)
-    st.sites party site (new_site 0 0 0) lawful sound.lawful.of_party in
-    grind (arith, common_steps, of_party)
+    grind (arith, common_steps, put-each (λ party site. party < length st.hub.parties → IsLawfulAt st.hub party site)
+    st.sites party site (new_site 0 0 0) lawful sound.lawful.of_party)
 
 -- a party submitted one more message
 submitted-sound : (st : State) (from : ℕ) (message : Message) → IsSound st → answers_in (message ∷ []) ≡ []
@@ -184,9 +180,8 @@ wired-keeps : (st : State) (from to : ℕ) (numbers : List ℕ) → KeepsLimits 
     → (from < length st.hub.parties → to < length st.hub.parties → IsLinkWithin st.limits (items_on st.hub from to) (sent_of st.hub from to) numbers)
     → KeepsLimits (with_wire st from to numbers)
 wired-keeps st from to numbers k within =
-    let links = put-each_pair (λ i j wire. i < length st.hub.parties → j < length st.hub.parties
-    → IsLinkWithin st.limits (items_on st.hub i j) (sent_of st.hub i j) wire) st.wires from to numbers [] within k.links in
-    assumption (links, k)
+    assumption (put-each_pair (λ i j wire. i < length st.hub.parties → j < length st.hub.parties
+    → IsLinkWithin st.limits (items_on st.hub i j) (sent_of st.hub i j) wire) st.wires from to numbers [] within k.links, k)
 
 -- the front of a wire is gone
 dropped-keeps : (st : State) (from to number : ℕ) (rest : List ℕ) → KeepsLimits st → wire_of st from to ≡ number ∷ rest → KeepsLimits (with_wire st from to rest)

@@ -1,5 +1,5 @@
 -- What each change of a part keeps, and what the list machine sees of it.
-use Rattle.mv_system.proofs.Words.{All, All-drop, All-push, Allows, AreBounds, AreWiresOf, Bool, Bounds, Change, Entry, Frame, HubState, IsFrameOf, IsSquare, IsSystem, IsTrue, IsWireOf, List, Message, NUMBER_LIMIT, None, Option, PARTIES_LIMIT, Reply, SiteState, Some, State, Step, WireState, [], answers_in, ap, are_parties, arith, ask_fault, cell, cell-map, change-follows, change-keeps, change-sound, drop, drop-map, false, get_or, get_or_read, headline-same, is_party, is_uplink_full, items_on, length, length-append, length-map, ltb-true, map, map-append, nat_le, nat_tests, new_hub, new_site, new_wire, numbers_of, numbers_on, opening, opening-keeps, opening-sound, option_map, put, put-map, range_with_len, routed_count-few, rules, set, set-get_or, site_of, slice_get, square-put, stamps_suffice, state_of, step-changes, submitted, table-all, wire_at, with_submission, ℕ, ◌++◌, ◌-◌, ◌<◌, ◌∙◌, ◌∷◌, ◌≡◌, ◌≤◌}
+use Rattle.mv_system.proofs.Words.{routed_count, submissions_of, All, All-drop, All-push, Allows, AreBounds, AreWiresOf, Bool, Bounds, Change, Entry, Frame, HubState, IsFrameOf, IsSquare, IsSystem, IsTrue, IsWireOf, List, Message, NUMBER_LIMIT, None, Option, PARTIES_LIMIT, Reply, SiteState, Some, State, Step, WireState, [], answers_in, ap, are_parties, arith, ask_fault, cell, cell-map, change-follows, change-keeps, change-sound, drop, drop-map, false, get_or, get_or_read, headline-same, is_party, is_uplink_full, items_on, length, length-append, length-map, ltb-true, map, map-append, nat_le, nat_tests, new_hub, new_site, new_wire, numbers_of, numbers_on, opening, opening-keeps, opening-sound, option_map, put, put-map, range_with_len, routed_count-few, rules, set, set-get_or, site_of, slice_get, square-put, stamps_suffice, state_of, step-changes, submitted, table-all, wire_at, with_submission, ℕ, ◌++◌, ◌-◌, ◌<◌, ◌∙◌, ◌∷◌, ◌≡◌, ◌≤◌}
 use Rattle.std.proofs.lemmas.Option.{slice_get-map, slice_get_within, get_or_from_slice_get}
 use Rattle.mv_link.proofs.CallerLemmas.{of_longer}
 use Rattle.mv_hub.proofs.CallerLemmas.{link_items-push}
@@ -33,6 +33,11 @@ left {old} step reply view k allowed are_wires =
 pub wires_entered : {size : ℕ} {hub : HubState} {wires : List (List WireState)} (entry : Entry) → AreWiresOf size hub wires
     → AreWiresOf size (record hub { entries = hub.entries ++ entry ∷ [] }) wires
 wires_entered {size} {hub} {wires} entry k = grind (arith, link_items-push, of_longer)
+
+-- no more messages of a party were routed than it submitted
+pub routed_few : {st : State} {wires : List (List WireState)} (party : ℕ) → IsSystem st wires → IsTrue (is_party st party)
+    → routed_count st.hub.entries party ≤ length (submissions_of st party)
+routed_few {st} party k is_party = routed_count-few st party k.lawful (ltb-true party (length st.hub.parties) is_party)
 
 -- the party at a place
 pub site_read : {st : State} {wires : List (List WireState)} (party : ℕ) (site : SiteState) → IsSystem st wires → IsTrue (is_party st party) → site ≡ get_or st.sites party site

@@ -29,6 +29,7 @@ impl World {
     }
 
     /// Whether as many messages of a party are under way to the hub as its uplink takes.
+    #[tactic(auto, using(crate::proofs::SystemLemmas::routed_few))]
     pub(super) fn is_uplink_full(&self, from: Party) -> bool
         requires { IsTrue (is_party self.now from) }
         ensures { result ≡ is_uplink_full self.now from }

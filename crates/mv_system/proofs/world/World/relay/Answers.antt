@@ -20,6 +20,3 @@ invariant_of-self-2 c = (relayed c).1
 
 pub returns : goal.returns
 returns c = (relayed c).0
-
-pub invariant_of-self : goal.invariant_of-self
-invariant_of-self c = rw c.in_err-frame.ensures.err c.self.invariant

@@ -78,27 +78,23 @@ module _ {size : ℕ} {hub : HubState} {wires : List (List WireState)} (k : AreW
   frame_pushed frame new is of room =
       let short : length old.items < old.capacity = grind (arith, nat_tests, room, ap length seen, length-map, old_is.size_is) in
       let kept : new ≡ buffer (old.items ++ frame ∷ []) old.capacity = grind (arith, length-append) in
-      let frames = All-push (IsFrameOf (items_on hub from to)) old.items frame old_is.frames of in (
-        written new (rw kept (record { size_is = old_is.size_is; frames = frames })),
+      (
+        written new (rw kept (record { size_is = old_is.size_is; frames = All-push (IsFrameOf (items_on hub from to)) old.items frame old_is.frames of })),
         rw (put-map (λ w. numbers_of w.items) wires from to new, kept, seen, map-append (λ f. f.number) old.items (frame ∷ [])),
       )
 
   -- its front is taken away
   pub front_dropped : (new : WireState) → new ≡ buffer (drop 1 old.items) old.capacity
       → AreWiresOf size hub (put wires from to new) × (numbers_on (put wires from to new) ≡ put (numbers_on wires) from to (drop 1 (cell (numbers_on wires) from to [])))
-  front_dropped new is =
-      let frames = All-drop (IsFrameOf (items_on hub from to)) 1 old.items old_is.frames in (
-        written new (rw is (record { size_is = old_is.size_is; frames = frames })),
+  front_dropped new is = (
+        written new (rw is (record { size_is = old_is.size_is; frames = All-drop (IsFrameOf (items_on hub from to)) 1 old.items old_is.frames })),
         rw (put-map (λ w. numbers_of w.items) wires from to new, is, seen, drop-map (λ f. f.number) 1 old.items),
       )
 
-  -- its front is that of the numbers under way
-  pub front_seen : (front : Option Frame) → slice_get old.items 0 ≡ front → slice_get (cell (numbers_on wires) from to []) 0 ≡ option_map (λ f. f.number) front
-  front_seen front is = ap (λ l. slice_get l 0) seen ∙ slice_get-map (λ f. f.number) old.items 0 ∙ ap (option_map (λ f. f.number)) is
-
-  -- the frame in front of it bears the item of its number
-  pub front_item : (frame : Frame) → slice_get old.items 0 ≡ Some frame → slice_get (items_on hub from to) (frame.number - 1) ≡ Some frame.item
-  front_item frame front = grind (arith, slice_get_within, old_is, get_or_from_slice_get)
+  -- the number of the frame in front of it is that of the numbers under way, and it bears the item of its number
+  pub front_is : (frame : Frame) → slice_get old.items 0 ≡ Some frame
+      → (slice_get (cell (numbers_on wires) from to []) 0 ≡ Some frame.number) × (slice_get (items_on hub from to) (frame.number - 1) ≡ Some frame.item)
+  front_is frame front = (grind (arith, seen, slice_get-map), grind (arith, slice_get_within, old_is, get_or_from_slice_get))
 
 -- the record is short enough for one more entry
 pub entries-short : {st : State} {wires : List (List WireState)} → IsSystem st wires → length st.hub.entries < NUMBER_LIMIT

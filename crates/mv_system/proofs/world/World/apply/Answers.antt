@@ -1,6 +1,6 @@
 use Rattle.std.proofs.lemmas.Result.{err_from_is_err_and}
 use Rattle.mv_system.proofs.Words.{Allows, Apply, Bool, Err, IsTrue, Item, Look, Meets, None, Refused, SiteFault, SiteMemory, SiteState, Some, State, and_parts, ap, apply_fault, are_parties, arith, count_from, false, is_uplink_full, items_on, look_at, option_copied, outcome, put, refl, rules, set, set-get_or, site_of, slice_get, sym, unwrap_or, wire_of, ℕ, ◌-◌, ◌∙◌, ◌≡◌}
-use Rattle.mv_system.proofs.SystemLemmas.{wires_at, number_of_frame, Leaves, front_dropped, front_item, front_seen, left, site_back, site_read}
+use Rattle.mv_system.proofs.SystemLemmas.{wires_at, number_of_frame, Leaves, front_dropped, front_is, left, site_back, site_read}
 use Rattle.mv_link.specs.declared.incoming.Look.TheVariants as look
 use Rattle.mv_machine.specs.Replies.{refusal_of}
 use Rattle.std.proofs.lemmas.Grind.{elements}
@@ -17,14 +17,12 @@ taken c =
     let wires = c.self.invariant.are_wires in
     let both = rw (c.are_parties.ensures, ← c.self.view_is) at c.if-not-are_parties.false in
     let here = site_read to c.index_mut-site.result.now c.self.invariant (and_parts _ _ both).1 c.index_mut-site.ensures.value in
-    let front = sym c.front.ensures ∙ ap option_copied c.in-Some.is in
+    let front = front_is wires from to both _ c.at.ensures _ (sym c.front.ensures ∙ ap option_copied c.in-Some.is) in
     let dropped = front_dropped wires from to both _ c.at_mut-under_way.ensures.value _ c.pop_front.ensures.items in
-    let seen = front_seen wires from to both _ c.at.ensures _ front in
-    let item = front_item wires from to both _ c.at.ensures _ front in
     let full = rw (← c.self.view_is) at c.is_uplink_full-uplink_full.ensures in
     left (Apply from to) c.of_taken.result c.self.view_is c.self.invariant
     (rw (c.of_taken.ensures, c.in_ok-taken.ensures.value, c.in_ok-taken.ensures.ok, dropped.1)
-    (grind (arith, set-get_or, seen, item, full, here, c.in_ok-taken.ensures.fault))) dropped.0
+    (grind (arith, set-get_or, front, full, here, c.in_ok-taken.ensures.fault))) dropped.0
 
 pub invariant_of-self-2 : goal.invariant_of-self-2
 invariant_of-self-2 c = (taken c).1
@@ -45,12 +43,10 @@ returns-in_err-taken c =
     let site = c.index_mut-site.result.now in
     let both = rw (c.are_parties.ensures, ← c.self.view_is) at c.if-not-are_parties.false in
     let here = site_read to site k (and_parts _ _ both).1 c.index_mut-site.ensures.value in
-    let front = sym c.front.ensures ∙ ap option_copied c.in-Some.is in
-    let seen = front_seen k.are_wires from to both _ c.at.ensures _ front in
-    let item = front_item k.are_wires from to both _ c.at.ensures _ front in
+    let front = front_is k.are_wires from to both _ c.at.ensures _ (sym c.front.ensures ∙ ap option_copied c.in-Some.is) in
     let full = rw (← c.self.view_is) at c.is_uplink_full-uplink_full.ensures in
     rw (← c.self.view_is, c.in_err-taken.ensures.err, site_back c.self.inside.sites.items to site c.index_mut-site.ensures.value)
-    (grind (arith, seen, item, full, here, c.in_err-taken.ensures.fault, c.in_err-taken.ensures.memory))
+    (grind (arith, front, full, here, c.in_err-taken.ensures.fault, c.in_err-taken.ensures.memory))
 
 pub invariant_of-self : goal.invariant_of-self
 invariant_of-self c = grind (arith, site_back)

@@ -8,9 +8,8 @@ lost : (c : After-drop) → let a = c.self.inside in
 unfolding Allows Meets outcome
 lost c =
     let both = rw (c.are_parties.ensures, ← c.self.view_is) at c.if-not-are_parties.false in
-    let front = rw (← c.self.view_is) at (sym c.frame_number.ensures ∙ c.in-Some.is) in
     let dropped = front_dropped c.self.invariant.are_wires c.args.from c.args.to both _ c.at_mut-wire.ensures.value _ c.pop_front.ensures.items in
-    left (Lose c.args.from c.args.to) (Lost c.in-Some.number) c.self.view_is c.self.invariant (rw dropped.1 (grind arith)) dropped.0
+    left (Lose c.args.from c.args.to) (Lost c.in-Some.number) c.self.view_is c.self.invariant (rw dropped.1 (grind (arith, c.frame_number.ensures))) dropped.0
 
 pub invariant_of-self : goal.invariant_of-self
 invariant_of-self c = (lost c).1

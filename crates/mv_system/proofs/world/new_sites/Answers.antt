@@ -1,5 +1,5 @@
 use Rattle.mv_system.proofs.Words.{ℕ, sym, arith, map-range_with_len_more, new_site}
-use Rattle.mv_system.proofs.opening.new_sites.Goals as goal
+use Rattle.mv_system.proofs.world.new_sites.Goals as goal
 
 pub loop-party-preserved : goal.loop-party-preserved
 loop-party-preserved c =

@@ -132,15 +132,19 @@ module _ {parties : List (List (List ℕ))} {window : ℕ} {entries : List Entry
   -- a link that gains nothing is not busy, so the least busy party is the first of those whose links gain something
   pub busy_among : (from : ℕ) (message : Message) (gaining : PartySet) → from < length parties
       → ((to : ℕ) → has_party gaining to ≡ (is_reached parties entries from message to || ((to == from) && is_open entries from from)))
-      → busy_party (view parties window entries links) from message
-      ≡ find (is_busy (view parties window entries links) from message) (parties_in gaining)
+      → (busy_party (view parties window entries links) from message
+      ≡ find (is_busy (view parties window entries links) from message) (parties_in gaining))
+      × ((to : ℕ) → has_party gaining to ≡ true → to < length parties)
   unfolding busy_party
   busy_among from message gaining is_from gains =
       let hub = view parties window entries links in
-      let listed = listed-in gaining (has_party gaining) (length parties) kept.few (λ to lt. refl)
-      (λ to beyond. grind (arith, nat_tests, gains to, reached_below parties entries from message to)) in
-      rw listed (sym (find-those (is_busy hub from message) (has_party gaining) (length parties) (λ to lt nothing.
-      grind (arith, nothing, gains to, next_items_are hub from to message, kept.carries from to is_from lt, sent_at links from to, busy_is))))
+      let within : (to : ℕ) → has_party gaining to ≡ true → to < length parties =
+      λ to e. grind (arith, nat_tests, e, gains to, reached_below parties entries from message to) in
+      let listed = listed-in gaining (has_party gaining) (length parties) kept.few (λ to lt. refl) (λ to beyond. grind (arith, within to)) in (
+        rw listed (sym (find-those (is_busy hub from message) (has_party gaining) (length parties) (λ to lt nothing.
+        grind (arith, nothing, gains to, next_items_are hub from to message, kept.carries from to is_from lt, sent_at links from to, busy_is)))),
+        within,
+      )
 
   -- where no link is busy, each has room for its gain
   pub rooms : (from : ℕ) (message : Message) → from < length parties → busy_party (view parties window entries links) from message ≡ None
@@ -148,8 +152,8 @@ module _ {parties : List (List (List ℕ))} {window : ℕ} {entries : List Entry
   unfolding busy_party
   rooms from message is_from none to is_to =
       let hub = view parties window entries links in
-      let free = find-none_at (is_busy hub from message) to (length parties) is_to none in
-      grind (arith, busy_is hub from to message (link_at links from to), kept.carries from to is_from is_to, sent_at links from to, free)
+      grind (arith, busy_is hub from to message (link_at links from to), kept.carries from to is_from is_to, sent_at links from to,
+      find-none_at (is_busy hub from message) to (length parties) is_to none)
 
   -- all that the hub keeps, once a message was routed
   pub kept-routed : (new : List (List Sending)) (from : ℕ) (message : Message) → from < length parties

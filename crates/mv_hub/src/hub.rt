@@ -21,7 +21,6 @@ use std::marker::Model;
 
 mod links;
 mod routing;
-mod targets;
 
 /// The hub: the parties, the record of what it did, and what waits on each link to be relayed.
 pub struct Hub {

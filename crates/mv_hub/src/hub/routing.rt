@@ -1,18 +1,19 @@
-//! How a message is routed. Only the links that gain something are looked at: those to the parties that it reaches, and
+//! Whom a message is for, and how it is routed. Only the links that gain something are looked at: those to the parties that it reaches, and
 //! that of its sender to itself.
 
-ghost use Rattle.std.specs.Prelude.{◌≡◌, ◌+◌, ◌<◌, ℕ, [], ◌∷◌, true, length, None, Some, replicate, IfOk, IfErr, OnOk, OnErr};
-ghost use Rattle.mv_hub.specs.Words.{HasRoom, IsSquare, NUMBER_LIMIT, has_party, parties_in};
+ghost use Rattle.std.specs.Prelude.{◌≡◌, ◌&&◌, nat_lt, ◌+◌, ◌<◌, ℕ, [], ◌∷◌, true, length, None, Some, replicate, IfOk, IfErr, OnOk, OnErr};
+ghost use Rattle.mv_hub.specs.Words.{HasRoom, IsSquare, NUMBER_LIMIT, PARTIES_LIMIT, has_party, parties_in};
 ghost use Rattle.mv_hub.specs.Record.{routed_count};
-ghost use Rattle.mv_hub.specs.Targets.{is_query, reach};
+ghost use Rattle.mv_hub.specs.Targets.{is_query, is_target, reach, serves_product};
 ghost use Rattle.mv_link.specs.Fault.{FailsBy};
 ghost use Rattle.mv_hub.specs.Hub.{is_busy, busy_party, route_fault, with_routed};
 ghost use Rattle.mv_hub.specs.inside.Kept.{IsRouting, PushesItems, PushesRow, gain_of, link_at};
 
 use crate::hub::Hub;
 use crate::{Entry, RouteFault};
-use mv_link::{Item, Outgoing, PartySet, Reached};
+use mv_link::{Item, Outgoing, PARTIES_LIMIT, PartySet, Reached};
 use mv_message::{Message, Party, Shared};
+use mv_pack::Gtin;
 use mv_pairs::PairTable;
 use std::alloc::{AllocError, Global};
 
@@ -34,6 +35,40 @@ struct Routing<'a> {
 }
 
 impl Hub {
+    /// The parties that serve a market of a product.
+    fn servers(&self, gtin: &Gtin) -> PartySet
+        ensures { (party : ℕ) → has_party result party ≡ (nat_lt party (length self.now.parties)
+            && serves_product self.now.parties self.now.entries gtin.now party) }
+    {
+        self.parties().servers(self.markets(gtin).unwrap_or(&[]))
+    }
+
+    /// The parties that a message from a party is for.
+    #[tactic(auto, unfolding(crate::specs::Targets::is_target))]
+    fn targets(&self, from: Party, message: &Message) -> PartySet
+        requires { from < PARTIES_LIMIT }
+        ensures { (to : ℕ) → has_party result to ≡ (nat_lt to (length self.now.parties)
+            && is_target self.now.parties self.now.entries from message.now to) }
+    {
+        match message {
+            Message::Master { gtin, product } => {
+                let markets = product.get().markets.as_slice();
+                self.servers(gtin).or(self.parties().servers(markets))
+            }
+            Message::Repack { before, after, .. } => {
+                let after = self.servers(&after.get().gtin);
+                self.servers(&before.get().gtin).or(after)
+            }
+            Message::Upload { gtin, .. } => self.servers(gtin),
+            Message::Status { key, .. } => self.servers(&key.gtin),
+            Message::Recall { key, .. } => self.servers(&key.gtin),
+            Message::Withdraw { gtin, .. } => self.servers(gtin),
+            // No party asks itself.
+            Message::Query { key } => self.servers(&key.gtin).without(from),
+            Message::Answer { asker, .. } => self.parties().alone(*asker),
+        }
+    }
+
     /// Whether a link has no room for what the routing puts on it.
     #[tactic(auto, using(crate::proofs::HubLemmas::next_items_are, crate::proofs::HubLemmas::busy_is))]
     fn is_busy(&self, routing: &Routing<'_>, to: Party) -> bool

@@ -1,5 +1,5 @@
 use Rattle.mv_hub.proofs.Words.{AreNoted, [], map, take, ◌++◌, ◌∷◌}
-use Rattle.mv_hub.proofs.market_table.MarketTable.of.Given as goal
+use Rattle.mv_hub.proofs.parties.MarketTable.of.Given as goal
 
 abbrev pub invariant-loop-party : goal.invariant-loop-party
 invariant-loop-party l = AreNoted (map (λ list. list.items) (take l.party l.lists)) l.noted l.once

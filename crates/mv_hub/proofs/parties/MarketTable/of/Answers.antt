@@ -1,6 +1,6 @@
 use Rattle.mv_hub.proofs.Words.{arith, common_steps, take_more}
 use Rattle.mv_hub.proofs.PartiesLemmas.{noted-none, noted-more}
-use Rattle.mv_hub.proofs.market_table.MarketTable.of.Goals as goal
+use Rattle.mv_hub.proofs.parties.MarketTable.of.Goals as goal
 
 pub loop-party-init : goal.loop-party-init
 loop-party-init c = noted-none

@@ -29,12 +29,6 @@ pub gained_other : (parties : List (List (List ℕ))) (before : List Entry) (sen
 unfolding gained
 gained_other parties before sender k message from to e = rw e refl
 
--- a closing puts nothing on a link
-pub gained-closed : (parties : List (List (List ℕ))) (before : List Entry) (sender receiver from to : ℕ)
-    → gained parties before (Closed sender receiver) from to ≡ []
-unfolding gained
-gained-closed parties before sender receiver from to = refl
-
 -- no link gains anything
 pub row-none : {n from : ℕ} {g : ℕ → List Item} {old : List (List Sending)} → IsSquare n old → ((to : ℕ) → to < n → g to ≡ []) → PushesRow n from g old old
 row-none square none = grind (arith, append-nil)
@@ -59,11 +53,6 @@ pub row-same : {n from : ℕ} {g h : ℕ → List Item} {old new : List (List Se
     → PushesRow n from h old new
 row-same same row = grind arith
 
--- what was taken off the end of a list of equal members is one of them, and the others are left
-pub pop-equal : {A : Type 0} (n : ℕ) (same last : A) (rest : List A) → rest ++ last ∷ [] ≡ same ∷ replicate n same
-    → (rest ≡ replicate n same) × (last ≡ same)
-pop-equal n same last rest e = same_from_push rest (replicate n same) last same (grind (arith, e, replicate_more n same))
-
 -- what the hub is seen as
 abbrev pub view : List (List (List ℕ)) → ℕ → List Entry → List (List Sending) → HubState
 view parties window entries links = record { parties = parties; window = window; entries = entries; sent = sent_table links }
@@ -71,17 +60,7 @@ view parties window entries links = record { parties = parties; window = window;
 -- no more messages of one party were routed than there are entries
 pub routed_count_most : (entries : List Entry) (party : ℕ) → routed_count entries party ≤ length entries
 routed_count_most [] party = omega arith
-routed_count_most (Routed from k message ∷ entries) party = grind (arith, routed_count_most entries party)
-routed_count_most (Closed from to ∷ entries) party = grind (arith, routed_count_most entries party)
-
--- what the routing of a message puts on a link
-pub next_items_are : (hub : HubState) (from to : ℕ) (message : Message) → next_items hub from message to
-    ≡ cond ((to == from) && is_open hub.entries from from)
-    (Receipt (routed_count hub.entries from + 1) (reach hub.parties hub.entries from message) (is_query message) ∷ []) []
-    ++ cond (is_reached hub.parties hub.entries from message to)
-    (Carried (routed_count hub.entries from + 1) (length hub.entries + 1) message ∷ []) []
-unfolding gained
-next_items_are hub from to message = rw (eq-eqb from from refl)
+routed_count_most (entry ∷ entries) party = grind (arith, routed_count_most entries party)
 
 -- a link is busy exactly where it has no room
 pub busy_is : (hub : HubState) (from to : ℕ) (message : Message) (link : Sending) (count : ℕ)
@@ -113,7 +92,8 @@ reach_listed parties entries from message reached few is = grind (arith, listed-
 
 -- what a link gains is what the record will put on it
 pub next-gain : (hub : HubState) (routing : Routing) (to : ℕ) → IsRouting hub routing → gain_of routing to ≡ next_items hub routing.from routing.message.now to
-next-gain hub routing to is = grind (arith, reach_listed, next_items_are)
+unfolding gained
+next-gain hub routing to is = grind (arith, nat_tests, reach_listed)
 
 -- what was relayed of each link, once one link is another
 pub sent_put : (links : List (List Sending)) (from to : ℕ) (new : Sending) → sent_table (put links from to new) ≡ put (sent_table links) from to new.sent
@@ -135,14 +115,14 @@ module _ {parties : List (List (List ℕ))} {window : ℕ} {entries : List Entry
       → (busy_party (view parties window entries links) from message
       ≡ find (is_busy (view parties window entries links) from message) (parties_in gaining))
       × ((to : ℕ) → has_party gaining to ≡ true → to < length parties)
-  unfolding busy_party
+  unfolding busy_party gained
   busy_among from message gaining is_from gains =
       let hub = view parties window entries links in
       let within : (to : ℕ) → has_party gaining to ≡ true → to < length parties =
       λ to e. grind (arith, nat_tests, e, gains to, reached_below parties entries from message to) in
       let listed = listed-in gaining (has_party gaining) (length parties) kept.few (λ to lt. refl) (λ to beyond. grind (arith, within to)) in (
         rw listed (sym (find-those (is_busy hub from message) (has_party gaining) (length parties) (λ to lt nothing.
-        grind (arith, nothing, gains to, next_items_are hub from to message, kept.carries from to is_from lt, sent_at links from to, busy_is)))),
+        grind (arith, nat_tests, nothing, gains to, kept.carries from to is_from lt, sent_at links from to, busy_is)))),
         within,
       )
 
@@ -167,7 +147,8 @@ module _ {parties : List (List (List ℕ))} {window : ℕ} {entries : List Entry
   pub kept_closed : (from to : ℕ) (opened rest : PartySet) → from < length parties → opened ≡ get_or open_links from opened
       → ((other : ℕ) → has_party rest other ≡ (has_party opened other && not (other == to)))
       → IsKept parties window (entries ++ Closed from to ∷ []) routed_counts (set open_links from rest) links
-  kept_closed from to opened rest is_from at without = grind (arith, get_or_default, routed_from-append, Closed, append-nil, elements, is_open-append, link_items-push, gained-closed)
+  unfolding gained
+  kept_closed from to opened rest is_from at without = grind (arith, get_or_default, routed_from-append, Closed, append-nil, elements, is_open-append, link_items-push)
 
   -- all that the hub keeps, once an item of a link was relayed
   pub kept_relayed : (from to : ℕ) (old new : Sending) → from < length parties → to < length parties → link_at links from to ≡ old

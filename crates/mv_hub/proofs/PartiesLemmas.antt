@@ -69,11 +69,3 @@ pub noted-more : (lists : List (List (List ℕ))) (markets : List (List ℕ)) (m
     → AreNoted (lists ++ (markets ++ market ∷ []) ∷ []) (set noted (place_of market) (party + 1)) (once && (get_or noted (place_of market) 0 == 0))
 noted-more lists markets market party noted once count are is within =
     rw (← count) (search (rules, all-more, has_twice-push, list_any-append, ne_eqb, served-more, cases_eq, same-market))
-
-noted-none-try : AreNoted [] (replicate MARKETS_LIMIT 0) true
-noted-none-try = record {
-  long = length-replicate {A = ℕ} MARKETS_LIMIT 0;
-  twice = refl;
-  known = λ market is. grind (arith, none_at MARKETS_LIMIT (place_of market));
-  parties = λ market party once is. grind (arith, none_at MARKETS_LIMIT (place_of market));
-}

@@ -13,17 +13,8 @@ use Rattle.indexmap.specs.IndexSet.{insert_key}
 pub listed-same : {list : List BatchKey} {P Q : BatchKey → Type 0} → ((batch : BatchKey) → P batch ↔ Q batch) → IsAscendingList list P → IsAscendingList list Q
 listed-same same listed = record { order = listed.order; members = λ batch. grind (arith, same batch, listed.members batch) }
 
--- texts that agree in each byte are the same
-pub text-same : (a b : List ℕ) → pointwise nat_eq a b ≡ true → a ≡ b
-text-same a b = (bytes_eq-Decides a b).0
-
 pub batch-same : (a b : BatchKey) → is_same_batch a b ≡ true → a ≡ b
 batch-same a b e = search rules
-
--- an empty record says nothing
-pub tables_none : AreTables [] [] []
-unfolding last_product batches_of linked_to
-tables_none = record { are_catalogues = λ gtin. refl; are_links = λ batch. refl }
 
 last_or-append : {A : Type 0} (o : Option A) (xs ys : List A) → last_or o (xs ++ ys) ≡ last_or (last_or o xs) ys
 last_or-append o [] ys = refl

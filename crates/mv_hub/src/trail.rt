@@ -45,7 +45,7 @@ impl Model for AuditTrail {
 
 impl AuditTrail {
     /// An empty record.
-    #[tactic(auto, using(crate::proofs::TrailLemmas::tables_none))]
+    #[tactic(auto, unfolding(crate::specs::Record::last_product, crate::specs::Catalogue::batches_of, crate::specs::BatchLinks::linked_to))]
     pub(crate) fn new(alloc: Global) -> AuditTrail
         ensures { result ≡ [] }
     {

@@ -70,7 +70,7 @@ impl Hub {
     }
 
     /// Whether a link has no room for what the routing puts on it.
-    #[tactic(auto, using(crate::proofs::HubLemmas::next_items_are, crate::proofs::HubLemmas::busy_is))]
+    #[tactic(auto, using(std::proofs::lemmas::Bool::Decides::nat_tests, crate::proofs::HubLemmas::busy_is), unfolding(crate::specs::Links::gained))]
     fn is_busy(&self, routing: &Routing<'_>, to: Party) -> bool
         requires routing { IsRouting self.now routing.now }
         requires to { to < length self.now.parties }

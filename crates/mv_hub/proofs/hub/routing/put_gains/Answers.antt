@@ -1,5 +1,5 @@
-use Rattle.mv_hub.proofs.Words.{append-nil, refl, [], receipt_to, ◌∙◌, length, sym, ap, append_assoc, arith, replicate, and_parts, carried_by, new_sending, parties_in}
-use Rattle.mv_hub.proofs.HubLemmas.{row-none, row-push, pop-equal, row-same}
+use Rattle.mv_hub.proofs.Words.{same_from_push, replicate_more, append-nil, refl, [], receipt_to, ◌∙◌, length, sym, ap, append_assoc, arith, replicate, and_parts, carried_by, new_sending, parties_in}
+use Rattle.mv_hub.proofs.HubLemmas.{row-none, row-push, row-same}
 use Rattle.mv_hub.proofs.hub.routing.put_gains.Goals as goal
 use Rattle.mv_hub.proofs.hub.routing.put_gains.Goals.{then-routing, else-routing}
 
@@ -22,8 +22,8 @@ loop-to-preserved c =
     let left = c.pop_first.new.self in
     let sets = c.in-Some.ensures.sets in
     let here = before.left to sets.1 in
-    let popped = pop-equal (length (parties_in left)) routing.message.now c.in-Some-pop.message c.pop.new.self.items
-    (grind (arith, c.in-Some-pop.ensures.items, before.each, c.in-Some.ensures.list)) in
+    let popped = same_from_push c.pop.new.self.items (replicate (length (parties_in left)) routing.message.now) c.in-Some-pop.message routing.message.now
+    (grind (arith, replicate_more, c.in-Some-pop.ensures.items, before.each, c.in-Some.ensures.list)) in
     let pushed = rw (popped.1, ← c.at_mut-in-Some.ensures.value (new_sending 0)) at c.put_one-in-Some.ensures in
     record {
       row = row-push before.row c.requires.from (c.requires.within to here) pushed

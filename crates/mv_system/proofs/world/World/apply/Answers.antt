@@ -5,9 +5,8 @@ use Rattle.mv_link.specs.declared.incoming.Look.TheVariants as look
 use Rattle.mv_machine.specs.Replies.{refusal_of}
 use Rattle.std.proofs.lemmas.Grind.{elements}
 use Rattle.mv_system.proofs.world.World.apply.Goals as goal
-use Rattle.mv_system.proofs.world.World.apply.Goals.{After-of_taken}
 
-taken : (c : After-of_taken) → let a = c.self.inside in
+taken : (c : goal.After-of_taken) → let a = c.self.inside in
     Leaves c.args.self.now (Apply c.args.from c.args.to) c.of_taken.result
     a.limits a.hub (set a.sites.items c.args.to c.apply.new.self) (put a.wires c.args.from c.args.to c.pop_front.new.self)
 unfolding Allows Meets outcome

@@ -1,9 +1,8 @@
 use Rattle.mv_system.proofs.Words.{◌≡◌, IsSystem, opening, state_of}
 use Rattle.mv_system.proofs.SystemLemmas.{opened}
 use Rattle.mv_system.proofs.world.World.open.Goals as goal
-use Rattle.mv_system.proofs.world.World.open.Goals.{In_ok-hub}
 
-opens : (c : In_ok-hub) → let st = state_of c.args.limits c.in_ok-hub.hub c.in_ok-sites.sites.items c.in_ok-wires.wires in
+opens : (c : goal.In_ok-hub) → let st = state_of c.args.limits c.in_ok-hub.hub c.in_ok-sites.sites.items c.in_ok-wires.wires in
     (st ≡ opening c.args.parties c.args.limits) × IsSystem st c.in_ok-wires.wires
 opens c =
     let count = c.len-count.ensures in

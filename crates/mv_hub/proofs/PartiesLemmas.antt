@@ -1,7 +1,5 @@
 -- The parties that serve markets, and the table of the party of each market.
-use Rattle.mv_hub.proofs.Words.{listed-in, AreNoted, Bool, List, Option, [], all_markets, append-nil, append_assoc, arith, bytes_eq, cases_eq, common_steps, false, flat_map-append, get_or, has_market, has_twice, is_found, length, length-replicate, list_any-append, nat_lt, ne_eqb, refl, replicate, rules, served_by, serves_one, set, suc, sym, take, true, zero, ℕ, ◌&&◌, ◌++◌, ◌+◌, ◌<◌, ◌==◌, ◌||◌, ◌∷◌, ◌≡◌}
-use Rattle.mv_pack.specs.declared.market.TheConstants.{MARKETS_LIMIT}
-use Rattle.mv_pack.specs.Market.{IsMarket, place_of}
+use Rattle.mv_hub.proofs.Words.{IsMarket, MARKETS_LIMIT, place_of, listed-in, AreNoted, Bool, List, Option, [], all_markets, append-nil, append_assoc, arith, bytes_eq, cases_eq, common_steps, false, flat_map-append, get_or, has_market, has_twice, is_found, length, length-replicate, list_any-append, nat_lt, ne_eqb, refl, replicate, rules, served_by, serves_one, set, suc, sym, take, true, zero, ℕ, ◌&&◌, ◌++◌, ◌+◌, ◌<◌, ◌==◌, ◌||◌, ◌∷◌, ◌≡◌}
 
 -- the parties of a set
 pub ruleset parties_listed = (listed-in)

@@ -1,13 +1,8 @@
 -- When texts and batches are the same, what one more entry changes in what the record says of products and batches, and the search for the
 -- batches that chains of links lead to.
-use Rattle.mv_hub.proofs.Words.{AreTables, BatchKey, Bool, Contains, Contains-from_any, Entry, Gathers, IsAscendingList, IsChain, LinkTable, List, Listing, None, Option, Some, [], append-nil, append_assoc, arith, bytes_eq-Decides, catalogue_after, catalogue_in, common_steps, cond, elements, false, filter_map-append, fold-append, get_or, get_or_default, inl, inr, insert_all, is_same_batch, is_same_listing, last_or, last_product, length, link_in, linked_in, linked_to, list_any, nat_eq, no_catalogue, option_or, option_to_list, pointwise, product_in, refl, rules, true, unwrap_or, ℕ, ◌++◌, ◌+◌, ◌<◌, ◌↔◌, ◌∷◌, ◌≡◌, ◌≤◌, ◌⊎◌}
-use Rattle.std.specs.Map.{lookup}
-use Rattle.std.specs.declared.alloc.Global.{Global}
-use Rattle.std.specs.declared.vec.Vec.{Vec}
-use Rattle.mv_message.specs.declared.message.Product.{Product}
+use Rattle.mv_hub.proofs.Words.{Global, Vec, lookup, Product, insert_key, AreTables, BatchKey, Bool, Contains, Contains-from_any, Entry, Gathers, IsAscendingList, IsChain, LinkTable, List, Listing, None, Option, Some, [], append-nil, append_assoc, arith, bytes_eq-Decides, catalogue_after, catalogue_in, common_steps, cond, elements, false, filter_map-append, fold-append, get_or, get_or_default, inl, inr, insert_all, is_same_batch, is_same_listing, last_or, last_product, length, link_in, linked_in, linked_to, list_any, nat_eq, no_catalogue, option_or, option_to_list, pointwise, product_in, refl, rules, true, unwrap_or, ℕ, ◌++◌, ◌+◌, ◌<◌, ◌↔◌, ◌∷◌, ◌≡◌, ◌≤◌, ◌⊎◌}
 use Rattle.mv_hub.specs.declared.catalogue.Catalogue.{Catalogue}
 use Rattle.mv_hub.specs.Catalogue.{listing_in, batches_of}
-use Rattle.indexmap.specs.IndexSet.{insert_key}
 
 -- a list of batches, said in other words
 pub listed-same : {list : List BatchKey} {P Q : BatchKey → Type 0} → ((batch : BatchKey) → P batch ↔ Q batch) → IsAscendingList list P → IsAscendingList list Q

@@ -1,17 +1,11 @@
 -- What the hub keeps beside its record, how that follows from the record, how an entry changes its tables, and what a routing puts on
 -- the links of its sender.
 use Rattle.std.specs.Prelude.{List, [], ◌∷◌, ◌++◌, ◌+◌, ◌==◌, option_to_list, ◌≡◌, ◌↔◌, ◌⊎◌, Contains, Option, Some, None, Bool, true, false, if◌then◌else◌, ℕ, bytes_eq, length, slice_index, unwrap_or, ◌≢◌, ◌<◌, ◌≤◌, ◌&&◌, not, map, slice_index_or, take}
-use Rattle.mv_hub.specs.Words.{BatchKey, IsEquivalence, Message, Product, Upload, and_equiv, insert_all, is_same_batch, nat_eq_equiv, nat_list_eq_equiv, on_equiv, option_map_or, option_or, Carried, EndsWithHeld, Entry, HasRoom, IsSquare, Item, PARTIES_LIMIT, Receipt, Sending, cell, has_party, new_sending, parties_in}
+use Rattle.mv_hub.specs.Words.{Global, IsMarket, MARKETS_LIMIT, PartySet, Vec, lookup, place_of, BatchKey, IsEquivalence, Message, Product, Upload, and_equiv, insert_all, is_same_batch, nat_eq_equiv, nat_list_eq_equiv, on_equiv, option_map_or, option_or, Carried, EndsWithHeld, Entry, HasRoom, IsSquare, Item, PARTIES_LIMIT, Receipt, Sending, cell, has_party, new_sending, parties_in}
 use Rattle.mv_hub.specs.declared.catalogue.Catalogue.{Catalogue}
-use Rattle.std.specs.Map.{lookup}
-use Rattle.std.specs.declared.alloc.Global.{Global}
-use Rattle.std.specs.declared.vec.Vec.{Vec}
 use Rattle.mv_hub.specs.Record.{product_of, routed_count, is_open}
 use Rattle.mv_hub.specs.Listing.{Listing, is_same_listing}
-use Rattle.mv_pack.specs.Market.{IsMarket, place_of}
-use Rattle.mv_pack.specs.declared.market.TheConstants.{MARKETS_LIMIT}
 use Rattle.mv_hub.specs.Parties.{has_market, has_twice, served_by, all_markets}
-use Rattle.mv_link.specs.declared.party_set.PartySet.{PartySet}
 use Rattle.mv_hub.specs.Catalogue.{catalogue_of}
 use Rattle.mv_hub.specs.BatchLinks.{linked_to}
 use Rattle.mv_hub.specs.Links.{link_items}

@@ -8,8 +8,7 @@ ghost use Rattle.mv_hub.specs.BatchLinks.{linked_to, IsDescendant, IsAscendingLi
 ghost use Rattle.mv_hub.specs.Hub.{new_hub, sent_of, items_on};
 ghost use Rattle.mv_hub.specs.inside.Kept.{Carries};
 
-use crate::trail::AuditTrail;
-use crate::trail::batch_links::{add_all, ascending};
+use crate::trail::{AuditTrail, add_all, ascending};
 use crate::{Catalogue, Entry, Parties};
 use indexmap::IndexSet;
 use mv_link::{Outgoing, PartySet};

@@ -1,6 +1,6 @@
 use Rattle.std.proofs.lemmas.List.{take_more}
 use Rattle.mv_hub.proofs.TrailLemmas.{gathers_more}
-use Rattle.mv_hub.proofs.trail.batch_links.add_all.Goals as goal
+use Rattle.mv_hub.proofs.trail.add_all.Goals as goal
 
 pub loop-batch-preserved : goal.loop-batch-preserved
 loop-batch-preserved c =

@@ -1,6 +1,6 @@
 use Rattle.std.proofs.Common.{◌∙◌, arith}
 use Rattle.std.proofs.lemmas.Map.Steps.{set_value_same}
-use Rattle.mv_hub.proofs.trail.catalogues.note.Goals as goal
+use Rattle.mv_hub.proofs.trail.note.Goals as goal
 
 -- the product was unknown
 pub returns-clause-ok : goal.returns-clause-ok

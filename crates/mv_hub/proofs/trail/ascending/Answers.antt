@@ -5,7 +5,7 @@ use Rattle.std.proofs.lemmas.List.Sorted.{Contains-permutation, IsPermutation-sy
 use Rattle.mv_pack.specs.contracts.key.BatchKeyEq.TheImpl.Laws as equal
 use Rattle.mv_pack.specs.contracts.key.BatchKeyOrd.TheImpl.Laws as order
 use Rattle.mv_hub.proofs.TrailLemmas.{batch-same}
-use Rattle.mv_hub.proofs.trail.batch_links.ascending.Goals as goal
+use Rattle.mv_hub.proofs.trail.ascending.Goals as goal
 
 pub returns : goal.returns
 returns c =

@@ -1,6 +1,6 @@
 use Rattle.mv_hub.proofs.Words.{[], ◌∷◌, ◌∙◌, append-nil, err_from_is_err_and, rules, sym}
 use Rattle.mv_hub.proofs.TrailLemmas.{linked-put}
-use Rattle.mv_hub.proofs.trail.batch_links.add_link.Goals as goal
+use Rattle.mv_hub.proofs.trail.add_link.Goals as goal
 
 -- what was read is put back
 pub returns-in_err-push-clause-err : goal.returns-in_err-push-clause-err

@@ -1,5 +1,5 @@
 -- What one more entry at the end of a record changes, links that gain items, and what the hub keeps, through a routing and a relay.
-use Rattle.mv_hub.proofs.Words.{All, Bool, Carried, Carries, Closed, Entry, HasRoom, HubState, IsKept, IsRouting, IsSquare, Item, List, Message, None, PARTIES_LIMIT, PartySet, PushesItems, PushesRow, Receipt, Routed, Sending, [], ap, append-nil, append_assoc, arith, busy_party, cases_eq, cell, cell-map, cell-put_other, cell-put_same, common_steps, cond, elements, eq-eqb, eqb, false, find, find-none_at, find-those, gain_of, gained, get_or, get_or-replicate, get_or_default, has_party, inl, inr, is_busy, is_open, is_query, is_reached, is_target, items_on, length, length-replicate, length-set, link_at, link_items, link_items_after, listed-in, nat_lt, nat_tests, new_hub, new_sending, next_items, not, parties_in, put, put-each_pair, put-map, put-map_same, reach, refl, replicate, replicate_more, routed_count, routed_from, rules, same_from_push, sent_of, sent_table, set, square-put, sym, table-all, true, ℕ, ◌&&◌, ◌++◌, ◌+◌, ◌<◌, ◌==◌, ◌||◌, ◌↔◌, ◌∙◌, ◌∷◌, ◌≡◌, ◌≤◌}
+use Rattle.mv_hub.proofs.Words.{All, Carries, Closed, Entry, HasRoom, HubState, IsKept, IsRouting, IsSquare, Item, List, Message, None, PARTIES_LIMIT, PartySet, PushesItems, PushesRow, Routed, Sending, [], ap, append-nil, append_assoc, arith, busy_party, cases_eq, cell, cell-map, cell-put_other, cell-put_same, common_steps, cond, elements, eqb, false, find, find-none_at, find-those, gain_of, gained, get_or, get_or-replicate, get_or_default, has_party, inl, inr, is_busy, is_open, is_reached, is_target, items_on, length, length-replicate, link_at, link_items, link_items_after, listed-in, nat_lt, nat_tests, new_hub, new_sending, next_items, not, parties_in, put, put-map, put-map_same, reach, refl, replicate, routed_count, routed_from, sent_of, sent_table, set, square-put, sym, table-all, true, ℕ, ◌&&◌, ◌++◌, ◌+◌, ◌<◌, ◌==◌, ◌||◌, ◌↔◌, ◌∷◌, ◌≡◌, ◌≤◌}
 use Rattle.mv_hub.specs.declared.hub.routing.Routing.{Routing}
 
 pub routed_from-append : (before after : List Entry) (party : ℕ) → routed_from (before ++ after) party ≡ routed_from before party ++ routed_from after party
@@ -122,7 +122,7 @@ module _ {parties : List (List (List ℕ))} {window : ℕ} {entries : List Entry
       λ to e. grind (arith, nat_tests, e, gains to, reached_below parties entries from message to) in
       let listed = listed-in gaining (has_party gaining) (length parties) kept.few (λ to lt. refl) (λ to beyond. grind (arith, within to)) in (
         rw listed (sym (find-those (is_busy hub from message) (has_party gaining) (length parties) (λ to lt nothing.
-        grind (arith, nat_tests, nothing, gains to, kept.carries from to is_from lt, sent_at links from to, busy_is)))),
+            grind (arith, nat_tests, nothing, gains to, kept.carries from to is_from lt, sent_at links from to, busy_is)))),
         within,
       )
 
@@ -132,8 +132,13 @@ module _ {parties : List (List (List ℕ))} {window : ℕ} {entries : List Entry
   unfolding busy_party
   rooms from message is_from none to is_to =
       let hub = view parties window entries links in
-      grind (arith, busy_is hub from to message (link_at links from to), kept.carries from to is_from is_to, sent_at links from to,
-      find-none_at (is_busy hub from message) to (length parties) is_to none)
+      grind (
+        arith,
+        busy_is hub from to message (link_at links from to),
+        kept.carries from to is_from is_to,
+        sent_at links from to,
+        find-none_at (is_busy hub from message) to (length parties) is_to none,
+      )
 
   -- all that the hub keeps, once a message was routed
   pub kept-routed : (new : List (List Sending)) (from : ℕ) (message : Message) → from < length parties

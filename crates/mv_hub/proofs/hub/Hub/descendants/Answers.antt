@@ -1,4 +1,4 @@
-use Rattle.mv_hub.proofs.Words.{Contains, IfOk-weaker, IsAscendingList, IsDescendant, arith, linked_to, sym}
+use Rattle.mv_hub.proofs.Words.{Contains, IfOk-weaker, IsAscendingList, IsDescendant, arith}
 use Rattle.mv_hub.proofs.TrailLemmas.{listed-same, searching_end}
 use Rattle.mv_hub.proofs.hub.Hub.descendants.Goals as goal
 

@@ -1,4 +1,4 @@
-use Rattle.mv_hub.proofs.Words.{same_from_push, replicate_more, append-nil, refl, [], receipt_to, ◌∙◌, length, sym, ap, append_assoc, arith, replicate, and_parts, carried_by, new_sending, parties_in}
+use Rattle.mv_hub.proofs.Words.{same_from_push, replicate_more, append-nil, refl, [], receipt_to, length, append_assoc, arith, replicate, new_sending, parties_in}
 use Rattle.mv_hub.proofs.HubLemmas.{row-none, row-push, row-same}
 use Rattle.mv_hub.proofs.hub.routing.put_gains.Goals as goal
 use Rattle.mv_hub.proofs.hub.routing.put_gains.Goals.{then-routing, else-routing}

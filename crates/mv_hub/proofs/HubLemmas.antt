@@ -132,13 +132,8 @@ module _ {parties : List (List (List ℕ))} {window : ℕ} {entries : List Entry
   unfolding busy_party
   rooms from message is_from none to is_to =
       let hub = view parties window entries links in
-      grind (
-        arith,
-        busy_is hub from to message (link_at links from to),
-        kept.carries from to is_from is_to,
-        sent_at links from to,
-        find-none_at (is_busy hub from message) to (length parties) is_to none,
-      )
+      let free = find-none_at (is_busy hub from message) to (length parties) is_to none in
+      grind (arith, busy_is hub from to message (link_at links from to), kept.carries from to is_from is_to, sent_at links from to, free)
 
   -- all that the hub keeps, once a message was routed
   pub kept-routed : (new : List (List Sending)) (from : ℕ) (message : Message) → from < length parties

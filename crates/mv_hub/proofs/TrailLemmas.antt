@@ -34,15 +34,10 @@ pub tables_push : (entries : List Entry) (entry : Entry) (old new : List (List �
     → AreTables entries old old_links → AreTables (entries ++ entry ∷ []) new new_links
 unfolding last_product batches_of linked_to
 tables_push entries entry old new old_links new_links products links tables = record {
-  are_catalogues = λ gtin. grind (
-    arith,
-    products gtin,
-    tables.are_catalogues gtin,
-    filter_map-append (product_in gtin) entries (entry ∷ []),
-    filter_map-append (listing_in gtin) entries (entry ∷ []),
-    fold-append,
-    last_or-append {A = Product},
-  );
+  are_catalogues = λ gtin.
+      let given = filter_map-append (product_in gtin) entries (entry ∷ []) in
+      let listed = filter_map-append (listing_in gtin) entries (entry ∷ []) in
+      grind (arith, given, listed, products gtin, tables.are_catalogues gtin, fold-append, last_or-append {A = Product});
   are_links = λ batch. grind (arith, links batch, tables.are_links batch, filter_map-append (link_in batch) entries (entry ∷ []));
 }
 

@@ -1,5 +1,5 @@
-//! The parties and the markets that each serves, and the party of each market: it is found by the place of the market, with no search and no
-//! memory.
+//! The parties and the markets that each serves, and the party of each market: it is found by the
+//! place of the market, with no search and no memory.
 
 ghost use Rattle.std.specs.Prelude.{◌≡◌, ◌≤◌, ◌&&◌, ◌==◌, ℕ, List, true, false, map, length, nat_lt, MatchOption};
 ghost use Rattle.mv_hub.specs.Fault.{Gives};

@@ -20,8 +20,8 @@ open-before entries place from to k message at open_then = grind (arith, at, bef
 pub nothing_routed_later : (st : State) → IsLawful st → NothingRoutedLater st
 nothing_routed_later st lawful from to from_is_party to_is_party =
     put-each st.hub.parties st.hub.entries from to (λ item. number_of item ≤ routed_count (before_closing st.hub.entries from to) from) 2
-    (λ item put. grind (arith, lawful.of_record.fits put.place (Routed from (number_of item) put.message) put.routed,
-    open-before st.hub.entries put.place from to (number_of item) put.message put.routed put.still_open))
+    (λ item put. let fits = lawful.of_record.fits put.place (Routed from (number_of item) put.message) put.routed in
+    grind (arith, fits, open-before st.hub.entries put.place from to (number_of item) put.message put.routed put.still_open))
     (items_from (log_of st to) from) (log-put st from to lawful from_is_party to_is_party)
 
 -- once a link is closed, what stands before its closing stays

@@ -155,9 +155,9 @@ module _ (parties : List (List (List ℕ))) (from to : ℕ) where
   unfolding gained
   link-put before [] lawful = tt
   link-put before (entry ∷ entries) lawful =
+      let fits = lawful.fits (length before) entry (slice_get-behind before entry entries) in
       let front = take-append_seam before (entry ∷ entries) in
-      grind (arith, nat_tests, routed_count-push, put-weaker, own-put before, append_assoc, link-put (before ++ entry ∷ []) entries,
-      lawful.fits (length before) entry (slice_get-behind before entry entries))
+      grind (arith, nat_tests, routed_count-push, put-weaker, own-put before, append_assoc, link-put (before ++ entry ∷ []) entries)
 
 -- so what was applied over a link was put there
 pub log-put : (st : State) (from to : ℕ) → IsLawful st → from < length st.hub.parties → to < length st.hub.parties → ArePut st.hub.parties st.hub.entries from to 2 (items_from (log_of st to) from)
@@ -180,8 +180,8 @@ pub log-entry : (st : State) (party place : ℕ) (entry : LogEntry) → IsLawful
     × ArePut st.hub.parties st.hub.entries entry.sender party 2 (items_from (log_of st party) entry.sender)
     × IsPut st.hub.parties st.hub.entries entry.sender party entry.item
 log-entry st party place entry lawful is_party at =
-    grind (arith, common_steps, gets, (lawful.of_party party is_party).answers.from_parties, log-put st entry.sender party lawful,
-    entry-put st.hub.parties st.hub.entries party 2 (log_of st party) place entry at)
+    let put = entry-put st.hub.parties st.hub.entries party 2 (log_of st party) place entry at in
+    grind (arith, common_steps, gets, (lawful.of_party party is_party).answers.from_parties, log-put st entry.sender party lawful, put)
 
 -- the message of an entry stands under its number among those that its sender submitted
 routed_as : (st : State) (from k place : ℕ) (message : Message) → IsLawful st → from < length st.hub.parties
@@ -213,7 +213,6 @@ numbers_rise st lawful from to from_is_party to_is_party =
       λ k within. grind (arith, rise (λ item. not (is_carried item)) 0 (λ item. grind arith) 0 2 _ (omega arith) put (suc k)),
     )
 
-
 -- two entries of one sender and one turn stand at one place
 same-place : (parties : List (List (List ℕ))) (entries : List Entry) (to least : ℕ) (log : List LogEntry) (i j : ℕ) (one other : LogEntry)
     → slice_get log i ≡ Some one → slice_get log j ≡ Some other → one.sender ≡ other.sender → turn one.item ≡ turn other.item
@@ -227,8 +226,9 @@ stamps_distinct st lawful party is_party =
     distinct-stamps (log_of st party) (λ first second stamp a b.
     option_and_then_some (λ (entry : LogEntry). stamp_in entry.item) (slice_get (log_of st party) first) stamp a (λ one at_one in_one.
     option_and_then_some (λ (entry : LogEntry). stamp_in entry.item) (slice_get (log_of st party) second) stamp b (λ other at_other in_other.
-    grind (arith, log-entry st party first one lawful is_party at_one, log-entry st party second other lawful is_party at_other,
-    same-place st.hub.parties st.hub.entries party 2 (log_of st party) first second one other at_one at_other))))
+    let here = log-entry st party first one lawful is_party at_one in
+    let there = log-entry st party second other lawful is_party at_other in
+    grind (arith, here, there, same-place st.hub.parties st.hub.entries party 2 (log_of st party) first second one other at_one at_other))))
 
 pub repositories_agree : (st : State) → IsLawful st → RepositoriesAgree st
 repositories_agree st lawful pack one other one_is_party other_is_party same = search (same_about, stamps_distinct)

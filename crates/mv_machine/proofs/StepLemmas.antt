@@ -95,8 +95,9 @@ site-sound : (st : State) (party : ℕ) (site : SiteState) → IsSound st
     → (party < length st.hub.parties → opened_site site ≡ new_site party (length st.hub.parties) st.limits.submissions)
     → (party < length st.hub.parties → IsLawfulAt st.hub party site) → IsSound (with_site st party site)
 site-sound st party site sound same lawful =
-    grind (arith, common_steps, put-each (λ party site. party < length st.hub.parties → IsLawfulAt st.hub party site)
-    st.sites party site (new_site 0 0 0) lawful sound.lawful.of_party)
+    let of_party = put-each (λ party site. party < length st.hub.parties → IsLawfulAt st.hub party site)
+    st.sites party site (new_site 0 0 0) lawful sound.lawful.of_party in
+    grind (arith, common_steps, of_party)
 
 -- a party submitted one more message
 submitted-sound : (st : State) (from : ℕ) (message : Message) → IsSound st → answers_in (message ∷ []) ≡ []
@@ -180,8 +181,9 @@ wired-keeps : (st : State) (from to : ℕ) (numbers : List ℕ) → KeepsLimits 
     → (from < length st.hub.parties → to < length st.hub.parties → IsLinkWithin st.limits (items_on st.hub from to) (sent_of st.hub from to) numbers)
     → KeepsLimits (with_wire st from to numbers)
 wired-keeps st from to numbers k within =
-    assumption (put-each_pair (λ i j wire. i < length st.hub.parties → j < length st.hub.parties
-    → IsLinkWithin st.limits (items_on st.hub i j) (sent_of st.hub i j) wire) st.wires from to numbers [] within k.links, k)
+    let links = put-each_pair (λ i j wire. i < length st.hub.parties → j < length st.hub.parties
+    → IsLinkWithin st.limits (items_on st.hub i j) (sent_of st.hub i j) wire) st.wires from to numbers [] within k.links in
+    assumption (links, k)
 
 -- the front of a wire is gone
 dropped-keeps : (st : State) (from to number : ℕ) (rest : List ℕ) → KeepsLimits st → wire_of st from to ≡ number ∷ rest → KeepsLimits (with_wire st from to rest)

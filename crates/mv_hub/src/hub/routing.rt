@@ -1,5 +1,5 @@
-//! Whom a message is for, and how it is routed. Only the links that gain something are looked at: those to the parties that it reaches, and
-//! that of its sender to itself.
+//! Whom a message is for, and how it is routed. Only the links that gain something are looked at:
+//! those to the parties that it reaches, and that of its sender to itself.
 
 ghost use Rattle.std.specs.Prelude.{◌≡◌, ◌&&◌, nat_lt, ◌+◌, ◌<◌, ℕ, [], ◌∷◌, true, length, None, Some, replicate, IfOk, IfErr, OnOk, OnErr};
 ghost use Rattle.mv_hub.specs.Words.{HasRoom, IsSquare, NUMBER_LIMIT, PARTIES_LIMIT, has_party, parties_in};
@@ -203,8 +203,8 @@ fn is_query(message: &Message) -> bool
     matches!(message, Message::Query { .. })
 }
 
-/// Pushes what a routing puts on the links of its sender: the receipt, on the link to itself while that is open, and then the message for each
-/// party that it reaches. Nothing of this can fail.
+/// Pushes what a routing puts on the links of its sender: the receipt, on the link to itself while
+/// that is open, and then the message for each party that it reaches. Nothing of this can fail.
 fn put_gains(
     links: &mut PairTable<Outgoing>,
     routing: &Routing<'_>,

@@ -77,8 +77,7 @@ module _ {size : ℕ} {hub : HubState} {wires : List (List WireState)} (k : AreW
       → AreWiresOf size hub (put wires from to new) × (numbers_on (put wires from to new) ≡ put (numbers_on wires) from to (cell (numbers_on wires) from to [] ++ frame.number ∷ []))
   frame_pushed frame new is of room =
       let short : length old.items < old.capacity = grind (arith, nat_tests, room, ap length seen, length-map, old_is.size_is) in
-      let kept : new ≡ buffer (old.items ++ frame ∷ []) old.capacity = grind (arith, length-append) in
-      (
+      let kept : new ≡ buffer (old.items ++ frame ∷ []) old.capacity = grind (arith, length-append) in (
         written new (rw kept (record { size_is = old_is.size_is; frames = All-push (IsFrameOf (items_on hub from to)) old.items frame old_is.frames of })),
         rw (put-map (λ w. numbers_of w.items) wires from to new, kept, seen, map-append (λ f. f.number) old.items (frame ∷ [])),
       )
@@ -87,9 +86,9 @@ module _ {size : ℕ} {hub : HubState} {wires : List (List WireState)} (k : AreW
   pub front_dropped : (new : WireState) → new ≡ buffer (drop 1 old.items) old.capacity
       → AreWiresOf size hub (put wires from to new) × (numbers_on (put wires from to new) ≡ put (numbers_on wires) from to (drop 1 (cell (numbers_on wires) from to [])))
   front_dropped new is = (
-        written new (rw is (record { size_is = old_is.size_is; frames = All-drop (IsFrameOf (items_on hub from to)) 1 old.items old_is.frames })),
-        rw (put-map (λ w. numbers_of w.items) wires from to new, is, seen, drop-map (λ f. f.number) 1 old.items),
-      )
+    written new (rw is (record { size_is = old_is.size_is; frames = All-drop (IsFrameOf (items_on hub from to)) 1 old.items old_is.frames })),
+    rw (put-map (λ w. numbers_of w.items) wires from to new, is, seen, drop-map (λ f. f.number) 1 old.items),
+  )
 
   -- the number of the frame in front of it is that of the numbers under way, and it bears the item of its number
   pub front_is : (frame : Frame) → slice_get old.items 0 ≡ Some frame

@@ -1,8 +1,5 @@
-use Rattle.std.proofs.lemmas.Result.{err_from_is_err_and}
-use Rattle.mv_system.proofs.Words.{Allows, Apply, Bool, Err, IsTrue, Item, Look, Meets, None, Refused, SiteFault, SiteMemory, SiteState, Some, State, and_parts, ap, apply_fault, are_parties, arith, count_from, false, is_uplink_full, items_on, look_at, option_copied, outcome, put, refl, rules, set, set-get_or, site_of, slice_get, sym, unwrap_or, wire_of, ℕ, ◌-◌, ◌∙◌, ◌≡◌}
+use Rattle.mv_system.proofs.Words.{Allows, Apply, Meets, and_parts, ap, arith, option_copied, outcome, put, set, set-get_or, sym, ◌∙◌}
 use Rattle.mv_system.proofs.SystemLemmas.{wires_at, number_of_frame, Leaves, front_dropped, front_is, left, site_back, site_read}
-use Rattle.mv_link.specs.declared.incoming.Look.TheVariants as look
-use Rattle.mv_machine.specs.Replies.{refusal_of}
 use Rattle.std.proofs.lemmas.Grind.{elements}
 use Rattle.mv_system.proofs.world.World.apply.Goals as goal
 

@@ -1,4 +1,4 @@
-use Rattle.mv_system.proofs.Words.{◌≡◌, ◌<◌, length, true, arith, nat_tests, Closed, closed, is_open}
+use Rattle.mv_system.proofs.Words.{◌≡◌, ◌<◌, length, true, arith, nat_tests, closed, is_open}
 use Rattle.mv_system.proofs.SystemLemmas.{changed, wires_entered}
 use Rattle.mv_system.proofs.world.World.close.Goals as goal
 

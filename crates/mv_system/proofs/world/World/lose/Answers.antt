@@ -1,4 +1,4 @@
-use Rattle.mv_system.proofs.Words.{Allows, Meets, arith, outcome, sym, ◌∙◌, Lose, Lost, put}
+use Rattle.mv_system.proofs.Words.{Allows, Meets, arith, outcome, Lose, Lost, put}
 use Rattle.mv_system.proofs.SystemLemmas.{Leaves, front_dropped, left}
 use Rattle.mv_system.proofs.world.World.lose.Goals as goal
 

@@ -1,4 +1,4 @@
-use Rattle.mv_system.proofs.Words.{Allows, Meets, arith, outcome, sym, ◌∙◌, Relay, Relayed, put}
+use Rattle.mv_system.proofs.Words.{Allows, Meets, arith, outcome, Relay, Relayed, put}
 use Rattle.mv_system.proofs.SystemLemmas.{Leaves, frame_pushed, left}
 use Rattle.mv_system.proofs.world.World.relay.Goals as goal
 

@@ -1,4 +1,4 @@
-use Rattle.mv_system.proofs.Words.{Allows, Meets, arith, outcome, sym, ◌∙◌, Repeat, Repeated, put}
+use Rattle.mv_system.proofs.Words.{Allows, Meets, arith, outcome, Repeat, Repeated, put}
 use Rattle.mv_system.proofs.SystemLemmas.{Leaves, frame_pushed, left}
 use Rattle.mv_system.proofs.world.World.repeat.Goals as goal
 

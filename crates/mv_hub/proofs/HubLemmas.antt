@@ -1,7 +1,57 @@
--- What the hub keeps, through a routing and a relay.
-use Rattle.mv_hub.proofs.Words.{◌≡◌, ℕ, ◌+◌, ◌<◌, ◌≤◌, Bool, true, false, ◌&&◌, ◌||◌, not, List, [], ◌∷◌, ◌++◌, length, get_or, set, cond, None, sym, refl, ap, ◌∙◌, arith, inl, inr, append-nil, ◌↔◌, length-set, ◌==◌, nat_lt, find, replicate, rules, All, Carried, Carries, Closed, Entry, HasRoom, HubState, IsKept, IsRouting, IsSquare, Item, Message, PARTIES_LIMIT, PartySet, PushesItems, PushesRow, Receipt, Routed, Sending, busy_party, cases_eq, cell, cell-map, elements, eq-eqb, find-none_at, find-those, gain_of, gained, get_or-replicate, get_or_default, has_party, is_busy, is_open, is_query, is_reached, is_target, items_on, length-replicate, link_at, link_items, listed-in, nat_tests, new_hub, new_sending, next_items, parties_in, put, put-each_pair, put-map, reach, routed_count, sent_of, sent_table, square-put, table-all, with_relayed}
+-- What one more entry at the end of a record changes, links that gain items, and what the hub keeps, through a routing and a relay.
+use Rattle.mv_hub.proofs.Words.{All, Carries, Closed, Entry, HasRoom, HubState, IsKept, IsRouting, IsSquare, Item, List, Message, None, PARTIES_LIMIT, PartySet, PushesItems, PushesRow, Routed, Sending, [], ap, append-nil, append_assoc, arith, busy_party, cases_eq, cell, cell-map, cell-put_other, cell-put_same, common_steps, cond, elements, eqb, false, find, find-none_at, find-those, gain_of, gained, get_or, get_or-replicate, get_or_default, has_party, inl, inr, is_busy, is_open, is_reached, is_target, items_on, length, length-replicate, link_at, link_items, link_items_after, listed-in, nat_lt, nat_tests, new_hub, new_sending, next_items, not, parties_in, put, put-map, put-map_same, reach, refl, replicate, routed_count, routed_from, sent_of, sent_table, set, square-put, sym, table-all, true, ℕ, ◌&&◌, ◌++◌, ◌+◌, ◌<◌, ◌==◌, ◌||◌, ◌↔◌, ◌∷◌, ◌≡◌, ◌≤◌}
 use Rattle.mv_hub.specs.declared.hub.routing.Routing.{Routing}
-use Rattle.mv_hub.proofs.RecordLemmas.{routed_from-append, is_open-append, link_items-push, gained_other, gained-closed}
+
+pub routed_from-append : (before after : List Entry) (party : ℕ) → routed_from (before ++ after) party ≡ routed_from before party ++ routed_from after party
+routed_from-append [] after party = refl
+routed_from-append (entry ∷ before) after party = grind (arith, routed_from-append before after party)
+
+-- what no entry of two records closes is open
+pub is_open-append : (before after : List Entry) (from to : ℕ) → is_open (before ++ after) from to ≡ (is_open before from to && is_open after from to)
+is_open-append [] after from to = refl
+is_open-append (entry ∷ before) after from to = grind (arith, is_open-append before after from to)
+
+link_items_after-append : (parties : List (List (List ℕ))) (before entries more : List Entry) (from to : ℕ)
+    → link_items_after parties before (entries ++ more) from to
+    ≡ link_items_after parties before entries from to ++ link_items_after parties (before ++ entries) more from to
+link_items_after-append parties before [] more from to = grind (arith, append-nil)
+link_items_after-append parties before (e ∷ entries) more from to = grind (arith, link_items_after-append parties (before ++ e ∷ []) entries more from to, append_assoc)
+
+-- one more entry puts on a link just what it gains
+pub link_items-push : (parties : List (List (List ℕ))) (entries : List Entry) (entry : Entry) (from to : ℕ)
+    → link_items parties (entries ++ entry ∷ []) from to ≡ link_items parties entries from to ++ gained parties entries entry from to
+unfolding link_items
+link_items-push parties entries entry from to = grind (arith, link_items_after-append parties [] entries (entry ∷ []) from to, append-nil)
+
+-- a routed message of another party puts nothing on the link
+pub gained_other : (parties : List (List (List ℕ))) (before : List Entry) (sender k : ℕ) (message : Message) (from to : ℕ)
+    → eqb sender from ≡ false → gained parties before (Routed sender k message) from to ≡ []
+unfolding gained
+gained_other parties before sender k message from to e = rw e refl
+
+-- no link gains anything
+pub row-none : {n from : ℕ} {g : ℕ → List Item} {old : List (List Sending)} → IsSquare n old → ((to : ℕ) → to < n → g to ≡ []) → PushesRow n from g old old
+row-none square none = grind (arith, append-nil)
+
+-- one link gains these items more
+pub row-push : {n from to : ℕ} {g h : ℕ → List Item} {items : List Item} {old now : List (List Sending)} {link : Sending} → PushesRow n from g old now
+    → from < n → to < n → PushesItems items (link_at now from to) link → ((other : ℕ) → other < n → h other ≡ g other ++ cond (other == to) items [])
+    → PushesRow n from h old (put now from to link)
+row-push {n} {from} {to} {now = now} {link = link} row is_from is_to pushed are = record {
+  square = search square-put;
+  gained = λ other below. elim (cases_eq other to) [
+    | inl same ↦ grind (arith, common_steps, cell-put_same n now from to link (new_sending 0), row.gained other below, are other below)
+    | inr apart ↦
+        grind (arith, append-nil, nat_tests, cell-put_other now from to from other link (new_sending 0), row.gained other below, are other below)
+  ];
+  others = grind (arith, cell-put_other);
+  sent = grind (arith, put-map_same (λ v. v.sent) now from to link (new_sending 0) pushed.sent);
+}
+
+-- a row, said in other words
+pub row-same : {n from : ℕ} {g h : ℕ → List Item} {old new : List (List Sending)} → ((to : ℕ) → to < n → g to ≡ h to) → PushesRow n from g old new
+    → PushesRow n from h old new
+row-same same row = grind arith
 
 -- what the hub is seen as
 abbrev pub view : List (List (List ℕ)) → ℕ → List Entry → List (List Sending) → HubState
@@ -10,17 +60,7 @@ view parties window entries links = record { parties = parties; window = window;
 -- no more messages of one party were routed than there are entries
 pub routed_count_most : (entries : List Entry) (party : ℕ) → routed_count entries party ≤ length entries
 routed_count_most [] party = omega arith
-routed_count_most (Routed from k message ∷ entries) party = grind (arith, routed_count_most entries party)
-routed_count_most (Closed from to ∷ entries) party = grind (arith, routed_count_most entries party)
-
--- what the routing of a message puts on a link
-pub next_items_are : (hub : HubState) (from to : ℕ) (message : Message) → next_items hub from message to
-    ≡ cond ((to == from) && is_open hub.entries from from)
-    (Receipt (routed_count hub.entries from + 1) (reach hub.parties hub.entries from message) (is_query message) ∷ []) []
-    ++ cond (is_reached hub.parties hub.entries from message to)
-    (Carried (routed_count hub.entries from + 1) (length hub.entries + 1) message ∷ []) []
-unfolding gained
-next_items_are hub from to message = rw (eq-eqb from from refl)
+routed_count_most (entry ∷ entries) party = grind (arith, routed_count_most entries party)
 
 -- a link is busy exactly where it has no room
 pub busy_is : (hub : HubState) (from to : ℕ) (message : Message) (link : Sending) (count : ℕ)
@@ -52,7 +92,12 @@ reach_listed parties entries from message reached few is = grind (arith, listed-
 
 -- what a link gains is what the record will put on it
 pub next-gain : (hub : HubState) (routing : Routing) (to : ℕ) → IsRouting hub routing → gain_of routing to ≡ next_items hub routing.from routing.message.now to
-next-gain hub routing to is = grind (arith, reach_listed, next_items_are)
+unfolding gained
+next-gain hub routing to is = grind (arith, nat_tests, reach_listed)
+
+-- what was relayed of each link, once one link is another
+pub sent_put : (links : List (List Sending)) (from to : ℕ) (new : Sending) → sent_table (put links from to new) ≡ put (sent_table links) from to new.sent
+sent_put links from to new = put-map (λ v. v.sent) links from to new
 
 -- how many items of a link were relayed
 pub sent_at : (links : List (List Sending)) (from to : ℕ) → cell (sent_table links) from to 0 ≡ (link_at links from to).sent
@@ -62,33 +107,24 @@ carries-gain : (window : ℕ) (items more : List Item) (old new : Sending) → C
     → HasRoom old (length more) → Carries window (items ++ more) new
 carries-gain window items more old new carries gains room = grind arith
 
-carries-relayed : (window : ℕ) (items : List Item) (link : Sending) → Carries window items link → Carries window items (record link { sent = link.sent + 1 })
-carries-relayed window items link carries = search rules
-
 module _ {parties : List (List (List ℕ))} {window : ℕ} {entries : List Entry} {routed_counts : List ℕ} {open_links : List PartySet}
     {links : List (List Sending)} (kept : IsKept parties window entries routed_counts open_links links) where
-  -- a link that gains nothing is not busy
-  idle : (from to : ℕ) (message : Message) → from < length parties → to < length parties
-      → (is_reached parties entries from message to || ((to == from) && is_open entries from from)) ≡ false
-      → is_busy (view parties window entries links) from message to ≡ false
-  idle from to message is_from is_to none =
-      grind (arith, next_items_are (view parties window entries links) from to message, kept.carries from to is_from is_to, sent_at links from to, busy_is)
-
-  -- so the least busy party is the first of those whose links gain something
+  -- a link that gains nothing is not busy, so the least busy party is the first of those whose links gain something
   pub busy_among : (from : ℕ) (message : Message) (gaining : PartySet) → from < length parties
       → ((to : ℕ) → has_party gaining to ≡ (is_reached parties entries from message to || ((to == from) && is_open entries from from)))
-      → busy_party (view parties window entries links) from message
-      ≡ find (is_busy (view parties window entries links) from message) (parties_in gaining)
-  unfolding busy_party
+      → (busy_party (view parties window entries links) from message
+      ≡ find (is_busy (view parties window entries links) from message) (parties_in gaining))
+      × ((to : ℕ) → has_party gaining to ≡ true → to < length parties)
+  unfolding busy_party gained
   busy_among from message gaining is_from gains =
-      let busy = is_busy (view parties window entries links) from message in
-      let test : ℕ → Bool = λ (to : ℕ). is_reached parties entries from message to || ((to == from) && is_open entries from from) in
-      let listed = listed-in gaining test (length parties) kept.few (λ to lt. gains to) (λ to beyond. gains to ∙ none to beyond) in
-      sym (ap (find busy) listed ∙ find-those busy test (length parties) (λ to lt nothing. idle from to message is_from lt nothing))
-    where
-      none : (to : ℕ) → length parties ≤ to
-          → (is_reached parties entries from message to || ((to == from) && is_open entries from from)) ≡ false
-      none to beyond = grind (arith, nat_tests, reached_below parties entries from message to)
+      let hub = view parties window entries links in
+      let within : (to : ℕ) → has_party gaining to ≡ true → to < length parties =
+      λ to e. grind (arith, nat_tests, e, gains to, reached_below parties entries from message to) in
+      let listed = listed-in gaining (has_party gaining) (length parties) kept.few (λ to lt. refl) (λ to beyond. grind (arith, within to)) in (
+        rw listed (sym (find-those (is_busy hub from message) (has_party gaining) (length parties) (λ to lt nothing.
+            grind (arith, nat_tests, nothing, gains to, kept.carries from to is_from lt, sent_at links from to, busy_is)))),
+        within,
+      )
 
   -- where no link is busy, each has room for its gain
   pub rooms : (from : ℕ) (message : Message) → from < length parties → busy_party (view parties window entries links) from message ≡ None
@@ -105,39 +141,19 @@ module _ {parties : List (List (List ℕ))} {window : ℕ} {entries : List Entry
       → PushesRow (length parties) from (next_items (view parties window entries links) from message) links new
       → IsKept parties window (entries ++ Routed from (routed_count entries from + 1) message ∷ []) (set routed_counts from (routed_count entries from + 1)) open_links new
   kept-routed new from message lt none row =
-      record {
-        some = kept.some;
-        few = kept.few;
-        counted = grind (arith, length-set);
-        counts = grind (arith, elements, routed_from-append);
-        opened = kept.opened;
-        opens = λ a b none is_a is_b. grind (arith, kept.opens a b none is_a is_b, is_open-append);
-        square = row.square;
-        carries = λ party to is_party is_to. elim (cases_eq party from) [
-          | inl same ↦ grind (arith, carries-gain, link_items-push, kept.carries from to lt is_to, row.gained to is_to, rooms from message lt none to is_to)
-          | inr other ↦ grind (arith, row.others party to other, link_items-push, gained_other, append-nil {A = Item}, kept.carries party to is_party is_to)
-        ];
-      }
+      grind (arith, elements, append-nil {A = Item}, routed_from-append, is_open-append, link_items-push, gained_other, carries-gain, rooms from message lt none)
 
   -- all that the hub keeps, once a link was closed
   pub kept_closed : (from to : ℕ) (opened rest : PartySet) → from < length parties → opened ≡ get_or open_links from opened
       → ((other : ℕ) → has_party rest other ≡ (has_party opened other && not (other == to)))
       → IsKept parties window (entries ++ Closed from to ∷ []) routed_counts (set open_links from rest) links
-  kept_closed from to opened rest is_from at without = grind (arith, get_or_default, routed_from-append, Closed, append-nil, elements, is_open-append, link_items-push, gained-closed)
+  unfolding gained
+  kept_closed from to opened rest is_from at without = grind (arith, get_or_default, routed_from-append, Closed, append-nil, elements, is_open-append, link_items-push)
 
   -- all that the hub keeps, once an item of a link was relayed
-  pub kept-relayed : (from to : ℕ) (old new : Sending) → from < length parties → to < length parties → link_at links from to ≡ old
+  pub kept_relayed : (from to : ℕ) (old new : Sending) → from < length parties → to < length parties → link_at links from to ≡ old
       → new ≡ record old { sent = old.sent + 1 } → IsKept parties window entries routed_counts open_links (put links from to new)
-  kept-relayed from to old new is_from is_to at e =
-      let carried = put-each_pair (λ i j v. i < length parties → j < length parties → Carries window (link_items parties entries i j) v) links from to new
-      (new_sending 0) (λ _ _. rw e (carries-relayed window _ old (rw at at (kept.carries from to is_from is_to)))) kept.carries in
-      search (rules, square-put, carried)
-
--- what the hub is seen as, once an item was relayed
-pub view_relayed : (parties : List (List (List ℕ))) (window : ℕ) (entries : List Entry) (links : List (List Sending)) (from to : ℕ) (new : Sending)
-    → new.sent ≡ (link_at links from to).sent + 1
-    → view parties window entries (put links from to new) ≡ with_relayed (view parties window entries links) from to
-view_relayed parties window entries links from to new e = rw (put-map (λ (v : Sending). v.sent) links from to new, e, sent_at links from to)
+  kept_relayed from to old new is_from is_to at e = grind (arith, elements, square-put)
 
 -- a hub where nothing has happened keeps what it should
 pub kept-new : (parties : List (List (List ℕ))) (window : ℕ) (all : PartySet) (links : List (List Sending))

@@ -1,6 +1,6 @@
 //! What the hub shows of a product.
 
-ghost use Rattle.std.specs.Prelude.{◌≡◌};
+ghost use Rattle.std.specs.Prelude.{◌≡◌, option_and_then};
 ghost use Rattle.mv_hub.specs.Words.{lists_equiv, option_copied, option_eq, options_equiv, partial_equiv_from_equiv, pointwise};
 ghost use Rattle.mv_message.specs.contracts.message.ProductEq.TheImpl.Laws.{laws-law};
 ghost use Rattle.mv_hub.specs.Record.{product_of};
@@ -65,8 +65,7 @@ pub struct MasterProduct {
 }
 
 impl Model for MasterProduct {
-    ghost use Rattle.std.specs.Prelude.{Option};
-    ghost use Rattle.std.specs.Option.{option_and_then};
+    ghost use Rattle.std.specs.Prelude.{Option, option_and_then};
     ghost use Rattle.mv_message.specs.declared.message.Product.{Product as AProduct};
     ghost use Rattle.mv_hub.specs.Record.{product_of};
 
@@ -76,8 +75,6 @@ impl Model for MasterProduct {
 }
 
 impl MasterProduct {
-    ghost use Rattle.std.specs.Option.{option_and_then};
-
     /// The product of a master. No other message has one.
     pub fn new(master: Option<Shared<Message>>) -> MasterProduct
         ensures { result ≡ option_and_then product_of master }
@@ -89,17 +86,10 @@ impl MasterProduct {
     pub fn get(&self) -> Option<&Product>
         ensures { option_copied result ≡ self.now }
     {
-        product_of(self.master.as_ref()?)
-    }
-}
-
-/// The product that a message gives.
-fn product_of(message: &Shared<Message>) -> Option<&Product>
-    ensures { option_copied result ≡ product_of message.now }
-{
-    match message.get() {
-        Message::Master { product, .. } => Some(product.get()),
-        _ => None,
+        match self.master.as_ref()?.get() {
+            Message::Master { product, .. } => Some(product.get()),
+            _ => None,
+        }
     }
 }
 

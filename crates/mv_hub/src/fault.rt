@@ -1,6 +1,7 @@
 //! Why the hub refuses a call. Each fault has its number.
 
 ghost use Rattle.std.specs.Prelude.{◌≡◌};
+ghost use Rattle.mv_hub.specs.Fault.{code_of, of_link, route_code_of};
 
 use mv_link::LinkFault;
 use mv_message::Party;
@@ -40,8 +41,6 @@ pub enum HubFault {
 }
 
 impl HubFault {
-    ghost use Rattle.mv_hub.specs.Fault.{code_of};
-
     /// The number of the fault, as `H3`.
     pub fn code(self) -> &'static str
         ensures { result.now ≡ code_of self }
@@ -61,9 +60,6 @@ impl HubFault {
 }
 
 impl From<LinkFault> for HubFault {
-    ghost use Rattle.std.specs.Prelude.{◌≡◌};
-    ghost use Rattle.mv_hub.specs.Fault.{of_link};
-
     ghost from_gives = { λ fault own. own ≡ of_link fault };
 
     fn from(fault: LinkFault) -> HubFault {
@@ -77,7 +73,6 @@ impl From<LinkFault> for HubFault {
 }
 
 impl From<AllocError> for HubFault {
-    ghost use Rattle.std.specs.Prelude.{◌≡◌};
     ghost use Rattle.mv_hub.specs.declared.fault.HubFault.TheVariants.{Memory};
 
     ghost from_gives = { λ _ fault. fault ≡ Memory };
@@ -102,8 +97,6 @@ pub enum RouteFault {
 }
 
 impl RouteFault {
-    ghost use Rattle.mv_hub.specs.Fault.{route_code_of};
-
     /// The number of the fault, as `H5`.
     pub fn code(self) -> &'static str
         ensures { result.now ≡ route_code_of self }
@@ -117,7 +110,6 @@ impl RouteFault {
 }
 
 impl From<AllocError> for RouteFault {
-    ghost use Rattle.std.specs.Prelude.{◌≡◌};
     ghost use Rattle.mv_hub.specs.declared.fault.RouteFault.TheVariants.{Memory};
 
     ghost from_gives = { λ _ fault. fault ≡ Memory };

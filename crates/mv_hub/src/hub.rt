@@ -1,14 +1,16 @@
 //! The hub: its record, a link for each ordered pair of parties, and which links are open.
 
 ghost use Rattle.std.specs.Prelude.{◌≡◌, ◌<◌, ◌≤◌, length, Contains, IfOk, option_map};
-ghost use Rattle.mv_hub.specs.Words.{IsSquare, option_copied};
+ghost use Rattle.mv_hub.specs.Words.{IsSquare, IsWindow, PARTIES_LIMIT, new_sending, option_copied};
 ghost use Rattle.mv_hub.specs.Record.{routed_count, last_markets, is_open};
 ghost use Rattle.mv_hub.specs.Catalogue.{catalogue_of};
 ghost use Rattle.mv_hub.specs.BatchLinks.{linked_to, IsDescendant, IsAscendingList};
+ghost use Rattle.mv_hub.specs.Hub.{new_hub, sent_of, items_on};
 ghost use Rattle.mv_hub.specs.inside.Kept.{Carries};
 
-use crate::trail::AuditTrail;
+use crate::trail::{AuditTrail, add_all, ascending};
 use crate::{Catalogue, Entry, Parties};
+use indexmap::IndexSet;
 use mv_link::{Outgoing, PartySet};
 use mv_message::Party;
 use mv_pack::{BatchKey, Gtin, Market};
@@ -16,10 +18,8 @@ use mv_pairs::PairTable;
 use std::alloc::{AllocError, Global};
 use std::marker::Model;
 
-mod gains;
 mod links;
 mod routing;
-mod targets;
 
 /// The hub: the parties, the record of what it did, and what waits on each link to be relayed.
 pub struct Hub {
@@ -72,10 +72,6 @@ impl Model for Hub {
 }
 
 impl Hub {
-    ghost use Rattle.mv_link.specs.Sending.{IsWindow, new_sending};
-    ghost use Rattle.mv_link.specs.declared.limits.TheConstants.{PARTIES_LIMIT};
-    ghost use Rattle.mv_hub.specs.Hub.{new_hub, sent_of, items_on};
-
     /// A hub where nothing has happened, whose links keep their last `window` items. Refused for want of memory.
     pub fn new(alloc: Global, parties: Parties, window: u32) -> Result<Hub, AllocError>
         requires { IsWindow window }
@@ -172,15 +168,25 @@ impl Hub {
         ensures { IfOk result (λ list.
             IsAscendingList list.items (Contains (linked_to self.now.entries batch.now))) }
     {
-        self.trail.linked(batch)
+        ascending(self.alloc, self.trail.links_of(batch))
     }
 
     /// The batches that descend from a batch: those to which a chain of one or more links leads from it, ascending and each
     /// once. The batch itself is among them only where a chain comes back to it. Refused for want of memory.
+    #[tactic(auto, using(crate::proofs::TrailLemmas::searching_start, crate::proofs::TrailLemmas::searching_more))]
     pub fn descendants(&self, batch: &BatchKey) -> Result<Vec<BatchKey>, AllocError>
         ensures { IfOk result (λ list.
             IsAscendingList list.items (IsDescendant self.now.entries batch.now)) }
     {
-        self.trail.descendants(batch)
+        let mut reached = IndexSet::new(self.alloc);
+        add_all(&mut reached, self.trail.links_of(batch))?;
+        // Each is looked at once, in the order in which it was reached.
+        let mut next = 0usize;
+        while next < reached.len() {
+            let links = self.trail.links_of(&reached.as_slice()[next]);
+            add_all(&mut reached, links)?;
+            next += 1;
+        }
+        ascending(self.alloc, reached.as_slice())
     }
 }

@@ -25,7 +25,6 @@ mod catalogue;
 mod entry;
 mod fault;
 mod hub;
-mod market_table;
 mod parties;
 mod trail;
 

@@ -1,15 +1,16 @@
-//! The parties and the markets that each serves.
+//! The parties and the markets that each serves, and the party of each market: it is found by the
+//! place of the market, with no search and no memory.
 
-ghost use Rattle.std.specs.Prelude.{◌≡◌, ◌≤◌, ◌&&◌, ◌==◌, ℕ, false, map, length, nat_lt, IfOk};
+ghost use Rattle.std.specs.Prelude.{◌≡◌, ◌≤◌, ◌&&◌, ◌==◌, ℕ, List, true, false, map, length, nat_lt, MatchOption};
 ghost use Rattle.mv_hub.specs.Fault.{Gives};
-ghost use Rattle.mv_hub.specs.Parties.{all_markets, has_twice, parties_of, serving, serves_one, served_by};
+ghost use Rattle.mv_hub.specs.Parties.{all_markets, has_market, has_twice, parties_of, serving, serves_one, served_by};
 ghost use Rattle.mv_link.specs.PartySets.{has_party};
+ghost use Rattle.mv_hub.specs.inside.Kept.{AreNoted, is_found};
 
 use crate::HubFault;
-use crate::market_table::MarketTable;
 use mv_link::{PARTIES_LIMIT, PartySet, Reach};
 use mv_message::{Markets, Party};
-use mv_pack::Market;
+use mv_pack::{MARKETS_LIMIT, Market};
 use std::alloc::{AllocError, Global};
 use std::marker::Model;
 
@@ -23,7 +24,7 @@ pub struct Parties {
 }
 
 impl Model for Parties {
-    ghost use Rattle.std.specs.Prelude.{ℕ, List, length, ◌≤◌};
+    ghost use Rattle.std.specs.Prelude.{ℕ, List, length, true, ◌≤◌};
     ghost use Rattle.mv_link.specs.declared.limits.TheConstants.{PARTIES_LIMIT};
     ghost use Rattle.mv_hub.specs.inside.Kept.{AreNoted};
 
@@ -32,7 +33,7 @@ impl Model for Parties {
     ghost view = { λ p. p.lists.items };
 
     ghost invariant = { λ p. (1 ≤ length p.lists.items) × (length p.lists.items ≤ PARTIES_LIMIT)
-        × AreNoted p.lists.items p.table.noted };
+        × AreNoted p.lists.items p.table.noted true };
 }
 
 impl Parties {
@@ -52,7 +53,7 @@ impl Parties {
         let Some(table) = MarketTable::of(lists.as_slice()) else {
             return Err(HubFault::ServedTwice);
         };
-        let lists = as_markets(alloc, lists)?;
+        let lists = lists.into_iter().map(Markets::new).collect(alloc)?;
         Ok(Parties { lists, table })
     }
 
@@ -74,6 +75,7 @@ impl Parties {
     }
 
     /// The parties that serve one of these markets.
+    #[tactic(auto, using(crate::proofs::PartiesLemmas::parties_listed))]
     pub fn serving(&self, markets: &[Market]) -> Reach
         ensures { result ≡ serving self.now markets.now }
     {
@@ -109,9 +111,42 @@ impl Parties {
     }
 }
 
-/// The same lists of markets.
-fn as_markets(alloc: Global, lists: Vec<Vec<Market>>) -> Result<Vec<Markets>, AllocError>
-    ensures { IfOk result (λ made. made.items ≡ map (λ list. list.items) lists.items) }
-{
-    lists.into_iter().map(Markets::new).collect(alloc)
+/// The party that serves each market.
+#[derive(Drop)]
+struct MarketTable {
+    /// At the place of a market one more than the number of its party, 0 where no party serves it.
+    noted: [u8; MARKETS_LIMIT],
+}
+
+impl MarketTable {
+    /// The table of these lists, the markets of party 0 first; none where a market stands twice, in one list or in two.
+    fn of(lists: &[Vec<Market>]) -> Option<MarketTable>
+        requires { length lists.now ≤ PARTIES_LIMIT }
+        ensures { MatchOption result
+            (has_twice (all_markets (map (λ list. list.items) lists.now)) ≡ true)
+            (λ table. AreNoted (map (λ list. list.items) lists.now) table.noted true) }
+    {
+        let mut noted = [0; MARKETS_LIMIT];
+        let mut once = true;
+        for party in 0..lists.len() {
+            for market in lists[party].as_slice() {
+                let place = market.place();
+                once &= noted[place] == 0;
+                noted[place] = party as u8 + 1;
+            }
+        }
+        once.then_some(MarketTable { noted })
+    }
+
+    /// The party that serves a market, if one does.
+    fn party_of(&self, market: &Market) -> Option<Party>
+        ensures { (lists : List (List (List ℕ))) (party : ℕ) → AreNoted lists self.now.noted true
+            → has_market (served_by lists party) market.now ≡ is_found result party }
+    {
+        let noted = self.noted[market.place()];
+        if noted == 0 {
+            return None;
+        }
+        Some(u32::from(noted) - 1)
+    }
 }

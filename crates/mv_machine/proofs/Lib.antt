@@ -1,10 +1,5 @@
 pub mod Words
-pub mod PrefixLemmas
-pub mod BoundLemmas
 pub mod PutLemmas
 pub mod StepLemmas
-pub mod LawfulLemmas
-pub mod ClosingLemmas
-pub mod LimitLemmas
 pub mod HeadlineLemmas
 pub mod CallerLemmas

@@ -1,5 +1,5 @@
 -- What each change of a part keeps, and what the list machine sees of it.
-use Rattle.mv_system.proofs.Words.{All, All-drop, All-push, Allows, AreBounds, AreWiresOf, Bool, Bounds, Change, Entry, Frame, HubState, IsFrameOf, IsSquare, IsSystem, IsTrue, IsWireOf, List, Message, NUMBER_LIMIT, None, Option, PARTIES_LIMIT, Reply, SiteState, Some, State, Step, WireState, [], answers_in, ap, are_parties, arith, ask_fault, cell, cell-map, change-follows, change-keeps, change-sound, drop, drop-map, false, get_or, get_or_read, headline-same, is_party, is_uplink_full, items_on, length, length-append, length-map, ltb-true, map, map-append, nat_le, nat_tests, new_hub, new_site, new_wire, numbers_of, numbers_on, opening, opening-keeps, opening-sound, option_map, put, put-map, range_with_len, routed_count-few, rules, set, set-get_or, site_of, slice_get, square-put, stamps_suffice, state_of, step-changes, submitted, table-all, wire_at, with_submission, ℕ, ◌++◌, ◌-◌, ◌<◌, ◌∙◌, ◌∷◌, ◌≡◌, ◌≤◌}
+use Rattle.mv_system.proofs.Words.{routed_count, submissions_of, All, All-drop, All-push, Allows, AreBounds, AreWiresOf, Bool, Bounds, Change, Entry, Frame, HubState, IsFrameOf, IsSquare, IsSystem, IsTrue, IsWireOf, List, Message, NUMBER_LIMIT, None, Option, PARTIES_LIMIT, Reply, SiteState, Some, State, Step, WireState, [], answers_in, ap, are_parties, arith, ask_fault, cell, cell-map, change-follows, change-keeps, change-sound, drop, drop-map, false, get_or, get_or_read, headline-same, is_party, is_uplink_full, items_on, length, length-append, length-map, ltb-true, map, map-append, nat_le, nat_tests, new_hub, new_site, new_wire, numbers_of, numbers_on, opening, opening-keeps, opening-sound, option_map, put, put-map, range_with_len, routed_count-few, rules, set, set-get_or, site_of, slice_get, square-put, stamps_suffice, state_of, step-changes, submitted, table-all, wire_at, with_submission, ℕ, ◌++◌, ◌-◌, ◌<◌, ◌∙◌, ◌∷◌, ◌≡◌, ◌≤◌}
 use Rattle.std.proofs.lemmas.Option.{slice_get-map, slice_get_within, get_or_from_slice_get}
 use Rattle.mv_link.proofs.CallerLemmas.{of_longer}
 use Rattle.mv_hub.proofs.CallerLemmas.{link_items-push}
@@ -33,6 +33,11 @@ left {old} step reply view k allowed are_wires =
 pub wires_entered : {size : ℕ} {hub : HubState} {wires : List (List WireState)} (entry : Entry) → AreWiresOf size hub wires
     → AreWiresOf size (record hub { entries = hub.entries ++ entry ∷ [] }) wires
 wires_entered {size} {hub} {wires} entry k = grind (arith, link_items-push, of_longer)
+
+-- no more messages of a party were routed than it submitted
+pub routed_few : {st : State} {wires : List (List WireState)} (party : ℕ) → IsSystem st wires → IsTrue (is_party st party)
+    → routed_count st.hub.entries party ≤ length (submissions_of st party)
+routed_few {st} party k is_party = routed_count-few st party k.lawful (ltb-true party (length st.hub.parties) is_party)
 
 -- the party at a place
 pub site_read : {st : State} {wires : List (List WireState)} (party : ℕ) (site : SiteState) → IsSystem st wires → IsTrue (is_party st party) → site ≡ get_or st.sites party site
@@ -72,28 +77,23 @@ module _ {size : ℕ} {hub : HubState} {wires : List (List WireState)} (k : AreW
       → AreWiresOf size hub (put wires from to new) × (numbers_on (put wires from to new) ≡ put (numbers_on wires) from to (cell (numbers_on wires) from to [] ++ frame.number ∷ []))
   frame_pushed frame new is of room =
       let short : length old.items < old.capacity = grind (arith, nat_tests, room, ap length seen, length-map, old_is.size_is) in
-      let kept : new ≡ buffer (old.items ++ frame ∷ []) old.capacity = grind (arith, length-append) in
-      let frames = All-push (IsFrameOf (items_on hub from to)) old.items frame old_is.frames of in (
-        written new (rw kept (record { size_is = old_is.size_is; frames = frames })),
+      let kept : new ≡ buffer (old.items ++ frame ∷ []) old.capacity = grind (arith, length-append) in (
+        written new (rw kept (record { size_is = old_is.size_is; frames = All-push (IsFrameOf (items_on hub from to)) old.items frame old_is.frames of })),
         rw (put-map (λ w. numbers_of w.items) wires from to new, kept, seen, map-append (λ f. f.number) old.items (frame ∷ [])),
       )
 
   -- its front is taken away
   pub front_dropped : (new : WireState) → new ≡ buffer (drop 1 old.items) old.capacity
       → AreWiresOf size hub (put wires from to new) × (numbers_on (put wires from to new) ≡ put (numbers_on wires) from to (drop 1 (cell (numbers_on wires) from to [])))
-  front_dropped new is =
-      let frames = All-drop (IsFrameOf (items_on hub from to)) 1 old.items old_is.frames in (
-        written new (rw is (record { size_is = old_is.size_is; frames = frames })),
-        rw (put-map (λ w. numbers_of w.items) wires from to new, is, seen, drop-map (λ f. f.number) 1 old.items),
-      )
+  front_dropped new is = (
+    written new (rw is (record { size_is = old_is.size_is; frames = All-drop (IsFrameOf (items_on hub from to)) 1 old.items old_is.frames })),
+    rw (put-map (λ w. numbers_of w.items) wires from to new, is, seen, drop-map (λ f. f.number) 1 old.items),
+  )
 
-  -- its front is that of the numbers under way
-  pub front_seen : (front : Option Frame) → slice_get old.items 0 ≡ front → slice_get (cell (numbers_on wires) from to []) 0 ≡ option_map (λ f. f.number) front
-  front_seen front is = ap (λ l. slice_get l 0) seen ∙ slice_get-map (λ f. f.number) old.items 0 ∙ ap (option_map (λ f. f.number)) is
-
-  -- the frame in front of it bears the item of its number
-  pub front_item : (frame : Frame) → slice_get old.items 0 ≡ Some frame → slice_get (items_on hub from to) (frame.number - 1) ≡ Some frame.item
-  front_item frame front = grind (arith, slice_get_within, old_is, get_or_from_slice_get)
+  -- the number of the frame in front of it is that of the numbers under way, and it bears the item of its number
+  pub front_is : (frame : Frame) → slice_get old.items 0 ≡ Some frame
+      → (slice_get (cell (numbers_on wires) from to []) 0 ≡ Some frame.number) × (slice_get (items_on hub from to) (frame.number - 1) ≡ Some frame.item)
+  front_is frame front = (grind (arith, seen, slice_get-map), grind (arith, slice_get_within, old_is, get_or_from_slice_get))
 
 -- the record is short enough for one more entry
 pub entries-short : {st : State} {wires : List (List WireState)} → IsSystem st wires → length st.hub.entries < NUMBER_LIMIT

@@ -12,7 +12,7 @@ pub use Rattle.mv_machine.specs.Runs.{Runs}
 unfoldable pub use Rattle.mv_machine.specs.Runs.{Allows, Meets}
 unfoldable pub use Rattle.mv_machine.specs.Steps.{outcome}
 pub use Rattle.mv_machine.specs.State.{State, is_party, is_uplink_full, opening, site_of, submissions_of, wire_of}
-pub use Rattle.mv_machine.specs.Words.{Entry, HubState, IsSquare, Item, Message, PARTIES_LIMIT, SiteState, are_parties, cell, count_from, is_open, items_on, new_hub, new_site, put, with_submission}
+pub use Rattle.mv_machine.specs.Words.{routed_count, Entry, HubState, IsSquare, Item, Message, PARTIES_LIMIT, SiteState, are_parties, cell, count_from, is_open, items_on, new_hub, new_site, put, with_submission}
 pub use Rattle.mv_machine.specs.declared.reply.Reply.{Reply}
 pub use Rattle.mv_machine.specs.declared.reply.Reply.TheVariants.{Lost, Refused, Relayed, Repeated}
 pub use Rattle.mv_machine.specs.declared.step.Step.{Step}

@@ -17,7 +17,6 @@
 //! ```
 #![tactic(auto)]
 
-mod opening;
 mod world;
 
 pub use mv_machine::{Limits, LimitsFault, Refusal, Reply, Step};

@@ -1,16 +1,20 @@
 //! The system, one step at a time and in whole runs.
 
-ghost use Rattle.std.specs.Prelude.{◌≡◌, IfOk, OnErr, IsTrue};
-ghost use Rattle.mv_machine.specs.State.{opening, is_party, submissions_of, log_of};
+ghost use Rattle.std.specs.Prelude.{◌≡◌, ◌≤◌, IfOk, OnErr, IsTrue, length, map, slice_get};
+ghost use Rattle.std.specs.List.{range_with_len};
+ghost use Rattle.mv_hub.specs.Hub.{are_parties};
+ghost use Rattle.mv_party.specs.Site.{new_site};
+ghost use Rattle.mv_party.specs.declared.limits.TheConstants.{SUBMISSIONS_LIMIT};
+ghost use Rattle.mv_machine.specs.Limits.{AreBounds};
+ghost use Rattle.mv_machine.specs.State.{opening, is_party, is_uplink_full, is_wire_full, log_of, submissions_of, wire_of};
 ghost use Rattle.mv_machine.specs.Steps.{ask};
 ghost use Rattle.mv_machine.specs.Replies.{changes_nothing};
 ghost use Rattle.mv_machine.specs.Runs.{Meets, Allows, Runs};
 ghost use Rattle.mv_machine.specs.Bounded.{KeepsLimits};
 ghost use Rattle.mv_machine.specs.Lawful.{IsLawful, IsWellFormed};
 ghost use Rattle.mv_machine.specs.Headline.{HeadlineHolds};
-ghost use Rattle.mv_system.specs.inside.World.{new_wire};
+ghost use Rattle.mv_system.specs.inside.World.{new_wire, numbers_of};
 
-use crate::opening::new_sites;
 use crate::world::steps::reply_of;
 use circular_buffer::HeapCircularBuffer;
 use mv_hub::{Entry, Hub, Parties};
@@ -24,7 +28,6 @@ use mv_repository::{LogEntry, Repository};
 use std::alloc::{AllocError, Global};
 use std::marker::Model;
 
-mod readers;
 mod steps;
 
 /// The system, seen as the state of the list machine.
@@ -201,4 +204,71 @@ impl World {
         }
         Ok(replies)
     }
+
+    /// The limits of the system.
+    pub fn limits(&self) -> Limits
+        ensures value { result ≡ self.now.limits }
+        ensures bounds { AreBounds self.now.limits }
+    {
+        self.limits
+    }
+
+    /// Whether both are parties.
+    fn are_parties(&self, from: Party, to: Party) -> bool
+        ensures { result ≡ are_parties self.now.hub from to }
+    {
+        self.is_party(from) && self.is_party(to)
+    }
+
+    /// Whether as many messages of a party are under way to the hub as its uplink takes.
+    #[tactic(auto, using(crate::proofs::SystemLemmas::routed_few))]
+    fn is_uplink_full(&self, from: Party) -> bool
+        requires { IsTrue (is_party self.now from) }
+        ensures { result ≡ is_uplink_full self.now from }
+    {
+        let limits = self.limits();
+        let waiting = self.sub(from).len() - self.hub.routed_count(from) as usize;
+        waiting == limits.uplink() as usize
+    }
+
+    /// The wire of a link.
+    #[tactic(auto, using(crate::proofs::SystemLemmas::wires_at, crate::proofs::SystemLemmas::wires_len_at))]
+    fn wire(&self, from: Party, to: Party) -> &HeapCircularBuffer<Frame>
+        requires { IsTrue (are_parties self.now.hub from to) }
+        ensures numbers { numbers_of result.now.items ≡ wire_of self.now from to }
+        ensures len { length result.now.items ≡ length (wire_of self.now from to) }
+    {
+        self.wires.at(from, to)
+    }
+
+    /// Whether as many frames of a link are under way as its wire takes.
+    fn is_wire_full(&self, from: Party, to: Party) -> bool
+        requires { IsTrue (are_parties self.now.hub from to) }
+        ensures { result ≡ is_wire_full self.now from to }
+    {
+        let limits = self.limits();
+        self.wire(from, to).len() >= limits.wire() as usize
+    }
+
+    /// The number of the frame at a place of a wire, the front at 0.
+    #[tactic(auto, using(crate::proofs::SystemLemmas::number_of_frame))]
+    pub fn frame_number(&self, from: Party, to: Party, place: usize) -> Option<u32>
+        requires { IsTrue (are_parties self.now.hub from to) }
+        ensures { result ≡ slice_get (wire_of self.now from to) place }
+    {
+        self.wire(from, to).get(place).map(|frame| frame.number)
+    }
+}
+
+/// So many parties, party 0 first, each of which submits so many messages at most.
+fn new_sites(alloc: Global, parties: u32, limit: u32) -> Result<Vec<Site>, AllocError>
+    requires { limit ≤ SUBMISSIONS_LIMIT }
+    ensures { IfOk result (λ sites.
+        sites.items ≡ map (λ party. new_site party parties limit) (range_with_len 0 parties)) }
+{
+    let mut sites = Vec::new(alloc);
+    for party in 0..parties {
+        sites.push(Site::new(alloc, party, parties, limit)?)?;
+    }
+    Ok(sites)
 }

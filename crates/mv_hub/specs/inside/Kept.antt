@@ -1,17 +1,11 @@
 -- What the hub keeps beside its record, how that follows from the record, how an entry changes its tables, and what a routing puts on
 -- the links of its sender.
-use Rattle.std.specs.Prelude.{List, [], ◌∷◌, ◌++◌, ◌+◌, ◌==◌, option_to_list, ◌≡◌, ◌↔◌, ◌⊎◌, Contains, Option, Some, None, Bool, false, if◌then◌else◌, ℕ, bytes_eq, length, slice_index, unwrap_or, ◌≢◌, ◌<◌, ◌≤◌, ◌&&◌, not, map, slice_index_or}
-use Rattle.mv_hub.specs.Words.{BatchKey, IsEquivalence, Message, Product, Upload, and_equiv, insert_all, is_same_batch, nat_eq_equiv, nat_list_eq_equiv, on_equiv, option_map_or, option_or, Carried, EndsWithHeld, Entry, HasRoom, IsSquare, Item, PARTIES_LIMIT, Receipt, Sending, cell, has_party, new_sending, parties_in}
+use Rattle.std.specs.Prelude.{List, [], ◌∷◌, ◌++◌, ◌+◌, ◌==◌, option_to_list, ◌≡◌, ◌↔◌, ◌⊎◌, Contains, Option, Some, None, Bool, true, false, if◌then◌else◌, ℕ, bytes_eq, length, slice_index, unwrap_or, ◌≢◌, ◌<◌, ◌≤◌, ◌&&◌, not, map, slice_index_or, take}
+use Rattle.mv_hub.specs.Words.{Global, IsMarket, MARKETS_LIMIT, PartySet, Vec, lookup, place_of, BatchKey, IsEquivalence, Message, Product, Upload, and_equiv, insert_all, is_same_batch, nat_eq_equiv, nat_list_eq_equiv, on_equiv, option_map_or, option_or, Carried, EndsWithHeld, Entry, HasRoom, IsSquare, Item, PARTIES_LIMIT, Receipt, Sending, cell, has_party, new_sending, parties_in}
 use Rattle.mv_hub.specs.declared.catalogue.Catalogue.{Catalogue}
-use Rattle.std.specs.Map.{lookup}
-use Rattle.std.specs.declared.alloc.Global.{Global}
-use Rattle.std.specs.declared.vec.Vec.{Vec}
 use Rattle.mv_hub.specs.Record.{product_of, routed_count, is_open}
 use Rattle.mv_hub.specs.Listing.{Listing, is_same_listing}
-use Rattle.mv_pack.specs.Market.{IsMarket, place_of}
-use Rattle.mv_pack.specs.declared.market.TheConstants.{MARKETS_LIMIT}
 use Rattle.mv_hub.specs.Parties.{has_market, has_twice, served_by, all_markets}
-use Rattle.mv_link.specs.declared.party_set.PartySet.{PartySet}
 use Rattle.mv_hub.specs.Catalogue.{catalogue_of}
 use Rattle.mv_hub.specs.BatchLinks.{linked_to}
 use Rattle.mv_hub.specs.Links.{link_items}
@@ -29,7 +23,7 @@ linked_in table batch = option_map_or (λ batches. batches.items) (lookup (is_sa
 
 -- more batches were put behind those of a list, each unless it was there
 pub record Gathers (old more new : List BatchKey) : Type 0 where
-  pub behind : (rest : List BatchKey) × (new ≡ old ++ rest)
+  pub behind : take (length old) new ≡ old
   pub members : (batch : BatchKey) → Contains new batch ↔ (Contains old batch ⊎ Contains more batch)
 
 -- nothing is known of a product
@@ -67,13 +61,13 @@ abbrev pub is_found : Option ℕ → ℕ → Bool
 is_found None party = false
 is_found (Some found) party = party == found
 
--- of lists in which no market stands twice a table has at the place of each market one more than the number of its party, and 0 where
--- no list has it
-pub record AreNoted (lists : List (List (List ℕ))) (noted : List ℕ) : Type 0 where
+-- whether a market stands twice in lists was seen, and of lists in which none does a table has at the place of each market one more than the
+-- number of its party, and 0 where no list has it
+pub record AreNoted (lists : List (List (List ℕ))) (noted : List ℕ) (once : Bool) : Type 0 where
   pub long : length noted ≡ MARKETS_LIMIT
-  pub once : has_twice (all_markets lists) ≡ false
+  pub twice : has_twice (all_markets lists) ≡ not once
   pub known : (market : List ℕ) → IsMarket market → has_market (all_markets lists) market ≡ not (slice_index noted (place_of market) == 0)
-  pub parties : (market : List ℕ) (party : ℕ) → IsMarket market
+  pub parties : (market : List ℕ) (party : ℕ) → once ≡ true → IsMarket market
       → has_market (served_by lists party) market ≡ (slice_index noted (place_of market) == (party + 1))
 
 -- the sending end of a link, by sender and receiver

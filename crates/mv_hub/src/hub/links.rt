@@ -62,7 +62,7 @@ impl Hub {
     }
 
     /// Counts the next item of the link from one party to another, which is there, as relayed.
-    #[tactic(auto, using(crate::proofs::HubLemmas::sent_at))]
+    #[tactic(auto, using(crate::proofs::HubLemmas::sent_at, crate::proofs::HubLemmas::kept_relayed, crate::proofs::HubLemmas::sent_put))]
     pub fn advance(&mut self, from: Party, to: Party)
         requires from { from < length self.old.parties }
         requires to { to < length self.old.parties }
@@ -76,7 +76,6 @@ impl Hub {
     ///
     /// The first of these that holds is the fault: H4, one of the parties is none; H8, every item of the link has been
     /// relayed; H7, memory was refused.
-    #[tactic(auto, using(crate::proofs::HubLemmas::sent_at))]
     pub fn relay(&mut self, from: Party, to: Party) -> Result<Frame, HubFault>
         ensures number { IfOk result (λ frame. frame.number ≡ sent_of self.old from to + 1) }
         ensures frame { IfOk result (λ frame. IsFrameOf (items_on self.old from to) frame) }
@@ -86,11 +85,10 @@ impl Hub {
         ensures err { OnErr result (self.new ≡ self.old) }
         ensures fault { FailsBy HubFault.Memory (relay_fault self.old from to) result }
     {
-        if !self.are_parties(from, to) {
-            return Err(HubFault::StrangerParty);
-        }
-        let link = self.links.at_mut(from, to);
-        Ok(link.relay()?)
+        let (number, next) = self.next_item(from, to)?;
+        let item = next.copy()?;
+        self.advance(from, to);
+        Ok(Frame { number, item })
     }
 
     /// The frame of this number of the link from one party to another once more, one that was relayed before. Nothing

@@ -1,59 +1,76 @@
-//! How a message is routed. Only the links that gain something are looked at: those to the parties that it reaches, and
-//! that of its sender to itself.
+//! Whom a message is for, and how it is routed. Only the links that gain something are looked at:
+//! those to the parties that it reaches, and that of its sender to itself.
 
-ghost use Rattle.std.specs.Prelude.{◌≡◌, ◌+◌, ◌<◌, length, None, Some, replicate, IfOk, IfErr, OnOk, OnErr};
-ghost use Rattle.mv_hub.specs.Words.{NUMBER_LIMIT, parties_in};
+ghost use Rattle.std.specs.Prelude.{◌≡◌, ◌&&◌, nat_lt, ◌+◌, ◌<◌, ℕ, [], ◌∷◌, true, length, None, Some, replicate, IfOk, IfErr, OnOk, OnErr};
+ghost use Rattle.mv_hub.specs.Words.{HasRoom, IsSquare, NUMBER_LIMIT, PARTIES_LIMIT, has_party, parties_in};
 ghost use Rattle.mv_hub.specs.Record.{routed_count};
-ghost use Rattle.mv_hub.specs.Targets.{reach};
+ghost use Rattle.mv_hub.specs.Targets.{is_query, is_target, reach, serves_product};
 ghost use Rattle.mv_link.specs.Fault.{FailsBy};
 ghost use Rattle.mv_hub.specs.Hub.{is_busy, busy_party, route_fault, with_routed};
-ghost use Rattle.mv_hub.specs.inside.Kept.{IsRouting};
+ghost use Rattle.mv_hub.specs.inside.Kept.{IsRouting, PushesItems, PushesRow, gain_of, link_at};
 
 use crate::hub::Hub;
-use crate::hub::gains::put_gains;
 use crate::{Entry, RouteFault};
-use mv_link::{PartySet, Reached};
+use mv_link::{Item, Outgoing, PARTIES_LIMIT, PartySet, Reached};
 use mv_message::{Message, Party, Shared};
+use mv_pack::Gtin;
+use mv_pairs::PairTable;
 use std::alloc::{AllocError, Global};
 
 /// How the next message of a party is routed.
 #[derive(Drop)]
-pub(super) struct Routing<'a> {
+struct Routing<'a> {
     /// Whose message it is.
-    pub(super) from: Party,
+    from: Party,
     /// The message.
-    pub(super) message: &'a Message,
+    message: &'a Message,
     /// Its number among the messages of the party, from one.
-    pub(super) k: u32,
+    k: u32,
     /// Its place in the record, from one.
-    pub(super) stamp: u32,
+    stamp: u32,
     /// Whether its sender gets a receipt: its link to itself is open.
-    pub(super) receipted: bool,
+    receipted: bool,
     /// The parties that it reaches.
-    pub(super) reached: PartySet,
+    reached: PartySet,
 }
 
 impl Hub {
-    /// How the next message of a party is routed.
-    fn routing<'a>(&self, from: Party, message: &'a Message) -> Routing<'a>
-        requires from { from < length self.now.parties }
-        requires short_record { length self.now.entries < NUMBER_LIMIT }
-        ensures from { result.from ≡ from }
-        ensures message { result.message.now ≡ message.now }
-        ensures routing { IsRouting self.now result }
+    /// The parties that serve a market of a product.
+    fn servers(&self, gtin: &Gtin) -> PartySet
+        ensures { (party : ℕ) → has_party result party ≡ (nat_lt party (length self.now.parties)
+            && serves_product self.now.parties self.now.entries gtin.now party) }
     {
-        Routing {
-            from,
-            message,
-            k: self.routed_count(from) + 1,
-            stamp: self.record().len() as u32 + 1,
-            receipted: self.is_open(from, from),
-            reached: self.reached(from, message),
+        self.parties().servers(self.markets(gtin).unwrap_or(&[]))
+    }
+
+    /// The parties that a message from a party is for.
+    #[tactic(auto, unfolding(crate::specs::Targets::is_target))]
+    fn targets(&self, from: Party, message: &Message) -> PartySet
+        requires { from < PARTIES_LIMIT }
+        ensures { (to : ℕ) → has_party result to ≡ (nat_lt to (length self.now.parties)
+            && is_target self.now.parties self.now.entries from message.now to) }
+    {
+        match message {
+            Message::Master { gtin, product } => {
+                let markets = product.get().markets.as_slice();
+                self.servers(gtin).or(self.parties().servers(markets))
+            }
+            Message::Repack { before, after, .. } => {
+                let after = self.servers(&after.get().gtin);
+                self.servers(&before.get().gtin).or(after)
+            }
+            Message::Upload { gtin, .. } => self.servers(gtin),
+            Message::Status { key, .. } => self.servers(&key.gtin),
+            Message::Recall { key, .. } => self.servers(&key.gtin),
+            Message::Withdraw { gtin, .. } => self.servers(gtin),
+            // No party asks itself.
+            Message::Query { key } => self.servers(&key.gtin).without(from),
+            Message::Answer { asker, .. } => self.parties().alone(*asker),
         }
     }
 
     /// Whether a link has no room for what the routing puts on it.
-    #[tactic(auto, using(crate::proofs::HubLemmas::next_items_are, crate::proofs::HubLemmas::busy_is))]
+    #[tactic(auto, using(std::proofs::lemmas::Bool::Decides::nat_tests, crate::proofs::HubLemmas::busy_is), unfolding(crate::specs::Links::gained))]
     fn is_busy(&self, routing: &Routing<'_>, to: Party) -> bool
         requires routing { IsRouting self.now routing.now }
         requires to { to < length self.now.parties }
@@ -81,7 +98,7 @@ impl Hub {
     }
 
     /// How the next message of a party is routed, or why it is not, memory aside.
-    #[tactic(auto, unfolding(crate::specs::Hub::route_fault))]
+    #[tactic(auto, using(crate::proofs::HubLemmas::reached_of), unfolding(crate::specs::Hub::route_fault))]
     fn next_routing<'a>(&self, from: Party, message: &'a Message) -> Result<Routing<'a>, RouteFault>
         requires { length self.now.entries < NUMBER_LIMIT }
         ensures from { IfOk result (λ routing. routing.from ≡ from) }
@@ -94,7 +111,15 @@ impl Hub {
         if from >= self.parties().len() {
             return Err(RouteFault::StrangerParty);
         }
-        let routing = self.routing(from, message);
+        let open = self.open_links[from as usize];
+        let routing = Routing {
+            from,
+            message,
+            k: self.routed_count(from) + 1,
+            stamp: self.record().len() as u32 + 1,
+            receipted: self.is_open(from, from),
+            reached: self.targets(from, message).and(open),
+        };
         match self.busy_party(&routing) {
             Some(to) => Err(RouteFault::Busy(to)),
             None => Ok(routing),
@@ -120,6 +145,7 @@ impl Hub {
     ///
     /// The first of these that holds is the fault: H4, there is no such party; H5, a link has no room for what it would
     /// gain, the least such; H7, memory was refused.
+    #[tactic(auto, using(crate::proofs::HubLemmas::reached_below, crate::proofs::HubLemmas::reach_listed))]
     pub fn route(
         &mut self,
         from: Party,
@@ -159,4 +185,58 @@ fn shares_of(
         shares.push_reserved(message.share()?);
     }
     Ok(shares)
+}
+
+/// Pushes an item on a link that has room for it.
+fn put_one(link: &mut Outgoing, item: Item)
+    requires { HasRoom link.old 1 }
+    ensures { PushesItems (item ∷ []) link.old link.new }
+{
+    // A push is always taken.
+    drop(link.push(item));
+}
+
+/// Whether a message asks about a pack.
+fn is_query(message: &Message) -> bool
+    ensures { result ≡ is_query message.now }
+{
+    matches!(message, Message::Query { .. })
+}
+
+/// Pushes what a routing puts on the links of its sender: the receipt, on the link to itself while
+/// that is open, and then the message for each party that it reaches. Nothing of this can fail.
+fn put_gains(
+    links: &mut PairTable<Outgoing>,
+    routing: &Routing<'_>,
+    mut shares: Vec<Shared<Message>>,
+)
+    requires square { IsSquare (length links.old) links.old }
+    requires from { routing.now.from < length links.old }
+    requires within { (to : ℕ) → has_party routing.now.reached to ≡ true → to < length links.old }
+    requires shares { shares.items
+        ≡ replicate (length (parties_in routing.now.reached)) routing.now.message.now }
+    requires room { (to : ℕ) → to < length links.old
+        → HasRoom (link_at links.old routing.now.from to)
+        (length (gain_of routing.now to)) }
+    ensures { PushesRow (length links.old) routing.now.from (gain_of routing.now)
+        links.old links.new }
+{
+    if routing.receipted {
+        let receipt = Item::Receipt {
+            k: routing.k,
+            reach: Reached::of(routing.reached),
+            query: is_query(routing.message),
+        };
+        put_one(links.at_mut(routing.from, routing.from), receipt);
+    }
+    let mut rest = routing.reached;
+    while let Some(to) = rest.pop_first() {
+        let Some(message) = shares.pop() else {
+            // There is one for each party that is reached.
+            unreachable!();
+        };
+        let (k, stamp) = (routing.k, routing.stamp);
+        let item = Item::Carried { k, stamp, message };
+        put_one(links.at_mut(routing.from, to), item);
+    }
 }

@@ -2,12 +2,6 @@ use Rattle.mv_hub.proofs.Words.{arith, nat_tests}
 use Rattle.mv_hub.proofs.HubLemmas.{kept_closed}
 use Rattle.mv_hub.proofs.hub.Hub.close.Goals as goal
 
--- memory was refused, and the record is as it was
-pub invariant_of-self : goal.invariant_of-self
-invariant_of-self c = rw c.in_err-push.ensures.err c.self.invariant
-
 -- the link is closed, and all else is as it was
 pub invariant_of-self-2 : goal.invariant_of-self-2
-invariant_of-self-2 c =
-    rw c.in_ok-push.ensures.ok
-    (kept_closed c.self.invariant c.args.from c.args.to c.index.result.now c.without.result (grind (arith, nat_tests)) c.index.ensures c.without.ensures)
+invariant_of-self-2 c = grind (arith, nat_tests, kept_closed c.self.invariant c.args.from c.args.to c.index.result.now c.without.result)

@@ -1,17 +1,14 @@
-use Rattle.mv_system.proofs.Words.{Allows, Meets, arith, outcome, sym, ◌∙◌, Repeat, Repeated, put}
+use Rattle.mv_system.proofs.Words.{Allows, Meets, arith, outcome, Repeat, Repeated, put}
 use Rattle.mv_system.proofs.SystemLemmas.{Leaves, frame_pushed, left}
 use Rattle.mv_system.proofs.world.World.repeat.Goals as goal
-use Rattle.mv_system.proofs.world.World.repeat.Goals.{After-drop}
 
-repeated : (c : After-drop) → let a = c.self.inside in
+repeated : (c : goal.After-drop) → let a = c.self.inside in
     Leaves c.args.self.now (Repeat c.args.from c.args.to c.args.number) (Repeated c.args.number) a.limits a.hub a.sites.items (put a.wires c.args.from c.args.to c.push_back.new.self)
 unfolding Allows Meets outcome
 repeated c =
     let frame = c.in_ok-frame in
-    let both = rw (c.are_parties.ensures, ← c.self.view_is) at c.if-not-are_parties.false in
-    let room = sym (rw (← c.self.view_is) at c.is_wire_full.ensures) ∙ c.if-is_wire_full.false in
-    let pushed = frame_pushed c.self.invariant.are_wires c.args.from c.args.to both _ c.at_mut-wire.ensures.value frame.frame _
-    c.push_back.ensures.items frame.ensures.frame room in
+    let pushed = frame_pushed c.self.invariant.are_wires c.args.from c.args.to (grind arith) _ c.at_mut-wire.ensures.value frame.frame _
+    c.push_back.ensures.items frame.ensures.frame (grind arith) in
     left (Repeat c.args.from c.args.to c.args.number) (Repeated c.args.number) c.self.view_is c.self.invariant
     (rw (pushed.1, frame.ensures.number) (grind (arith, frame.ensures.fault))) pushed.0
 

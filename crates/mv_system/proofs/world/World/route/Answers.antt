@@ -16,6 +16,3 @@ invariant_of-self-2 c =
     rw c.in_ok-k.ensures.ok (changed (routed from message (ltb-true from (length hub.parties) party)
     (grind (arith, here, c.routed_count-place.ensures.value, c.submission.ensures, c.in-Some.is)) c.in_ok-k.ensures.fault) c.self.invariant
     (wires_entered (next_entry hub from message) c.self.invariant.are_wires))
-
-pub invariant_of-self : goal.invariant_of-self
-invariant_of-self c = rw c.in_err-k.ensures.err c.self.invariant

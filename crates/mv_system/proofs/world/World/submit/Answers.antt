@@ -1,4 +1,4 @@
-use Rattle.mv_system.proofs.Words.{no_answer, submit-free}
+use Rattle.mv_system.proofs.Words.{arith, no_answer, submit-free}
 use Rattle.mv_system.proofs.SystemLemmas.{site_back, submitted_kept}
 use Rattle.mv_system.proofs.world.World.submit.Goals as goal
 
@@ -9,5 +9,4 @@ invariant_of-self-2 c =
     c.is_uplink_full-uplink_full.ensures c.index_mut-site.ensures.value c.in_ok-k.ensures.ok (no_answer _ free.0) free.1
 
 pub invariant_of-self : goal.invariant_of-self
-invariant_of-self c =
-    rw (c.in_err-k.ensures.err, site_back c.self.inside.sites.items c.args.from c.index_mut-site.result.now c.index_mut-site.ensures.value) c.self.invariant
+invariant_of-self c = grind (arith, site_back)

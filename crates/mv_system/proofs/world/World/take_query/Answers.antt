@@ -1,4 +1,4 @@
-use Rattle.mv_system.proofs.Words.{refl, Query}
+use Rattle.mv_system.proofs.Words.{arith, refl, Query}
 use Rattle.mv_system.proofs.SystemLemmas.{site_back, submitted_kept}
 use Rattle.mv_system.proofs.world.World.take_query.Goals as goal
 
@@ -8,5 +8,4 @@ invariant_of-self-2 c =
     c.is_uplink_full-uplink_full.ensures c.index_mut-site.ensures.value c.in_ok-q.ensures.ok refl c.in_ok-q.ensures.fault
 
 pub invariant_of-self : goal.invariant_of-self
-invariant_of-self c =
-    rw (c.in_err-q.ensures.err, site_back c.self.inside.sites.items c.args.party c.index_mut-site.result.now c.index_mut-site.ensures.value) c.self.invariant
+invariant_of-self c = grind (arith, site_back)

@@ -1,8 +1,0 @@
-use Rattle.mv_hub.proofs.Words.{AreNoted, [], map, take, ◌++◌, ◌∷◌}
-use Rattle.mv_hub.proofs.market_table.MarketTable.of.Given as goal
-
-abbrev pub invariant-loop-party : goal.invariant-loop-party
-invariant-loop-party l = AreNoted (map (λ list. list.items) (take l.party l.lists)) l.noted
-
-abbrev pub invariant-loop-market : goal.invariant-loop-market
-invariant-loop-market l = AreNoted (map (λ list. list.items) (take l.party l.lists) ++ take l.market-index l.markets ∷ []) l.noted

@@ -1,2 +1,1 @@
-pub mod DraftLemmas
-pub mod ReadLemmas
+pub mod Lemmas

@@ -1,6 +1,9 @@
 -- What is written of an event.
-use Rattle.mv_show.proofs.Words.{◌≡◌, ℕ, List, length, subst, refl, inr, IfOk, IfErr, Bool, option_map, Some, Result, Ok, Err, arith, nat_tests, Message, Entry, line_at, GotNoReply, Readied, said, Open, IsTaken, Answered, Event, event_of, last_of, routed, routing, event_text, IsEvent, Says, Tells, event_value}
+use Rattle.mv_show.proofs.Words.{◌≡◌, ℕ, List, length, subst, refl, inr, IfOk, IfErr, Bool, option_map, Some, Result, Ok, Err, arith, nat_tests, Message, Entry, line_at, GotNoReply, Readied, said, Open, IsTaken, Answered, Event, event_of, last_of, routed, routing, event_text, IsEvent, Says, Tells, event_value, Effect, Item, Reply, State, Option, applied, applied_fields, event_of_step, log_of, members_where, object, sym}
 use Rattle.mv_hub.specs.declared.entry.Entry.TheVariants as entries
+use Rattle.mv_machine.specs.declared.reply.Reply.TheVariants as replies
+use Rattle.mv_machine.specs.declared.step.Step.TheVariants as steps
+use Rattle.mv_repository.specs.declared.entry.LogEntry.{LogEntry}
 
 -- what was said of a line's event is what may be written to the line
 pub event_answers : {E : Type 0} (r : Result Bool E) (old new : List ℕ) (line : ℕ) (before : Open) (bytes : List ℕ) (answered : Answered) (after : Open)
@@ -27,3 +30,10 @@ module _ {E : Type 0} (r : Result Bool E) (old new : List ℕ) (line : ℕ) wher
       → Tells r old new line (routing reach (length all) (last_of all))
   route_tells reach all from k message written last same said =
       rw last (says_tells (routed from k message reach (length all)) (subst (λ m. Says r old new (event_value line (routed from k m reach (length all)))) same said))
+
+  -- and of an application, by the last entry of the log
+  pub applied_tells : (from to number : ℕ) (effect : Effect) (answer : Option ℕ) (entry : LogEntry) (item : Item) (reply : Reply) (st : State) → reply ≡ replies.Applied number effect answer
+      → Some entry ≡ last_of (log_of st to) → entry.item ≡ item → Says r old new (object (members_where (applied_fields line to number effect answer entry.sender item)))
+      → Tells r old new line (event_of_step (steps.Apply from to) reply st)
+  applied_tells from to number effect answer entry item reply st is last same said =
+      rw (is, ← last) (says_tells (applied to number effect answer entry) (subst (λ it. Says r old new (object (members_where (applied_fields line to number effect answer entry.sender it)))) (sym same) said))

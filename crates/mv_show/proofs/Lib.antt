@@ -2,8 +2,5 @@ pub mod Words
 pub mod OrderLemmas
 pub mod GatheringLemmas
 pub mod ShowingLemmas
-pub mod StepLemmas
-pub mod ToldLemmas
 pub mod TrailLemmas
 pub mod EventLemmas
-pub mod EventOrderLemmas

@@ -1,5 +1,5 @@
 -- Lemmas on an input that was taken, and on what was shown of it.
-use Rattle.mv_show.proofs.Words.{Appends-nil, Consumes, IfSome, List, None, Option, Some, [], arith, inl, refl, rules, ℕ, ◌∷◌, ◌≡◌, ◌≢◌, Err, IfErr, Ok, Result, inr, Line, pieces, whole_from, AreReplies, said_texts, Open}
+use Rattle.mv_show.proofs.Words.{Appends-nil, Consumes, IfSome, List, None, Option, Some, [], arith, inl, refl, rules, ℕ, ◌∷◌, ◌≡◌, ◌≢◌, IfErr, Result, Line, pieces, whole_from, AreReplies, said_texts, Open}
 use Rattle.mv_engine.specs.declared.fault.ServeFault.{ServeFault}
 use Rattle.mv_engine.specs.declared.fault.ServeFault.TheVariants.{Read, Write, Memory}
 use Rattle.mv_engine.specs.Served.{AreAnswered, Served, StoppedAt, Ended}
@@ -45,18 +45,8 @@ not_shown fault before input rest old new contents other none (bytes, took, ende
 
 -- memory may be refused before anything was taken
 stopped_at_once : (bytes : List ℕ) → StoppedAt IsPassed Memory [] 0 None bytes (whole_from [] bytes) None []
-stopped_at_once bytes = record {
-  good = [];
-  bad = bytes;
-  cut = refl;
-  why = tt;
-  unanswered = whole_from [] bytes;
-  parted = refl;
-  behind = None;
-  answered = record { kept = record { few = omega (arith); short = λ k d below. omega (arith, below) }; replied = ([], refl, refl) };
-  left = inl refl;
-  left_alone = λ other. refl;
-}
+stopped_at_once bytes =
+    record { good = []; bad = bytes; cut = refl; why = tt; unanswered = whole_from [] bytes; parted = refl; behind = None; answered = search rules; left = inl refl; left_alone = λ other. refl }
 
 pub refused_at_once : (input rest contents : Option (List ℕ)) (bytes : List ℕ) → Consumes input rest bytes → Unshown Memory input rest contents contents
 refused_at_once input rest contents bytes took =
@@ -65,5 +55,4 @@ refused_at_once input rest contents bytes took =
 -- memory was refused once the input was taken whole, and nothing was written
 pub memory_refused : {A : Type 0} (r : Result A ServeFault) (input rest contents : Option (List ℕ)) → IfErr r (λ fault. fault ≡ Memory)
     → (after : Open) → IfSome input (λ bytes. AreAnswered IsPassed 0 None (pieces bytes) after []) → IfErr r (λ fault. Unshown fault input rest contents contents)
-memory_refused (Ok shown) input rest contents is after taken = tt
-memory_refused (Err fault) input rest contents is after taken = rw is (inr (after, taken, Appends-nil contents))
+memory_refused r input rest contents is after taken = grind (arith, Appends-nil)

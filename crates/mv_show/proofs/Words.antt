@@ -11,7 +11,7 @@ pub use Rattle.mv_json.specs.Keys.{ItemsKeysAscend, KeysAscend}
 pub use Rattle.mv_lines.specs.Sessions.{IsTaken, Open}
 pub use Rattle.mv_link.specs.declared.item.Item.{Item}
 pub use Rattle.mv_link.specs.declared.item.Item.TheVariants.{Carried, Receipt}
-pub use Rattle.mv_machine.proofs.CallerLemmas.{Change, IsSound, applied as applied_change, asked as asked_change, change-sound, closed as closed_change, dropped, drops, nothing, opening-sound, relayed, repeated, routed as routed_change, slice_get-behind, step-changes, submitted as submitted_change}
+pub use Rattle.mv_machine.proofs.CallerLemmas.{Change, IsSound, applied as applied_change, asked as asked_change, change-sound, dropped, drops, nothing, opening-sound, slice_get-behind, step-changes, submitted as submitted_change}
 pub use Rattle.mv_machine.specs.State.{State, is_party, log_of, opening, site_of, submissions_of, wire_of, with_site}
 pub use Rattle.mv_machine.specs.declared.reply.Reply.{Reply}
 pub use Rattle.mv_machine.specs.declared.step.Step.{Step}
@@ -22,7 +22,7 @@ pub use Rattle.mv_party.specs.Site.{SiteState, answer_number, entry_from, new_si
 pub use Rattle.mv_repository.specs.Verdict.{answer_after}
 pub use Rattle.mv_repository.specs.declared.effect.Effect.{Effect}
 pub use Rattle.mv_show.specs.EventValues.{applied_fields, event_value}
-pub use Rattle.mv_show.specs.Events.{Event, applied, decided, event_of, event_of_step, last_of, opened, routed, routing, submitted, verified}
+pub use Rattle.mv_show.specs.Events.{Event, applied, decided, event_of, event_of_step, last_of, routed, routing, verified}
 pub use Rattle.mv_show.specs.Shown.{Row, RowsAreOrdered, lines_text, link_rows, party_rows, subject_rows}
 pub use Rattle.mv_show.specs.Subjects.{is_same_subject, named_of}
 pub use Rattle.mv_show.specs.Trail.{IsEvent, event_text}

@@ -4,9 +4,8 @@ ghost use Rattle.std.specs.Prelude.{◌≡◌, Some};
 ghost use Rattle.std.specs.Option.{option_copied};
 ghost use Rattle.serde_json.specs.Data.{object};
 ghost use Rattle.mv_machine.specs.State.{submissions_of, log_of};
-ghost use Rattle.mv_party.specs.Site.{entry_from};
 ghost use Rattle.mv_format.specs.Writing.{members_of};
-ghost use Rattle.mv_show.specs.Events.{last_of, asked_about, event_of_step, event_of, opened, applied};
+ghost use Rattle.mv_show.specs.Events.{last_of, asked_about, event_of_step, event_of, opened};
 ghost use Rattle.mv_show.specs.EventValues.{new_packs, old_packs, suspicion, verdict_name};
 ghost use Rattle.mv_show.specs.inside.Trail.{Tells, Says};
 
@@ -54,21 +53,6 @@ struct Teller<'a> {
     line: u32,
     /// What is open after it.
     world: &'a World,
-}
-
-/// A frame that a repository applied.
-#[derive(Clone, Copy, Drop)]
-struct AppliedFrame {
-    /// The party that its item came from.
-    from: Party,
-    /// The party of the repository.
-    to: Party,
-    /// The number of the frame on its link, counted from one.
-    number: u32,
-    /// What its item did.
-    effect: Effect,
-    /// The number of the answer that it called for, if it did.
-    answer: Option<u32>,
 }
 
 impl<'a> Teller<'a> {
@@ -182,68 +166,53 @@ impl<'a> Teller<'a> {
     }
 
     /// Tells what the application of a frame did, by the last entry of the log.
-    fn tell_apply(&self, from: Party, to: Party, reply: &Reply, out: &mut Vec<u8>) -> Told
+    fn tell_apply(&self, from: Party, to: Party, reply: &'a Reply, out: &mut Vec<u8>) -> Told
         ensures { Tells result out.old.items out.new.items self.now.line
             (event_of_step (Step.Apply from to) reply.now self.now.world.now) }
     {
-        let Reply::Applied {
-            number,
-            effect,
-            answer,
-        } = reply
-        else {
-            return Ok(false);
-        };
         let Some(entry) = last_applied(self.world, to) else {
             return Ok(false);
         };
-        let frame = AppliedFrame {
-            from: entry.sender,
-            to,
-            number: *number,
-            effect: *effect,
-            answer: *answer,
-        };
-        self.tell_applied(frame, &entry.item, out)
-    }
-
-    /// Tells that a frame was applied, which bore this item.
-    fn tell_applied(&self, frame: AppliedFrame, item: &Item, out: &mut Vec<u8>) -> Told
-        ensures { Tells result out.old.items out.new.items self.now.line (Some (applied
-            frame.to frame.number frame.effect frame.answer (entry_from frame.from item.now))) }
-    {
-        match item {
-            Item::Receipt { k, reach, query } => self.say(
+        match (reply, &entry.item) {
+            (Reply::Applied { number, effect, .. }, Item::Receipt { k, reach, query }) => self.say(
                 &[
-                    Member::Text("effect", frame.effect.code()),
+                    Member::Text("effect", effect.code()),
                     Member::Text("event", "applied"),
-                    Member::Number("from", frame.from as u64),
+                    Member::Number("from", entry.sender as u64),
                     Member::Number("k", *k as u64),
                     Member::Number("line", self.line as u64),
-                    Member::Number("number", frame.number as u64),
+                    Member::Number("number", *number as u64),
                     Member::Flag("query", *query),
                     Member::Parties("reach", reach),
-                    Member::Number("to", frame.to as u64),
+                    Member::Number("to", to as u64),
                 ],
                 out,
             ),
-            Item::Carried { k, stamp, message } => self.say(
+            (
+                Reply::Applied {
+                    number,
+                    effect,
+                    answer,
+                },
+                Item::Carried { k, stamp, message },
+            ) => self.say(
                 &[
-                    Member::NumberOrNone("answer", wide(frame.answer)),
-                    Member::Text("effect", frame.effect.code()),
+                    Member::NumberOrNone("answer", wide(*answer)),
+                    Member::Text("effect", effect.code()),
                     Member::Text("event", "applied"),
-                    Member::Number("from", frame.from as u64),
+                    Member::Number("from", entry.sender as u64),
                     Member::Number("k", *k as u64),
                     Member::Number("line", self.line as u64),
                     Member::Message("message", message.get()),
-                    Member::NumberOrNone("new", new_packs(frame.effect)),
-                    Member::Number("number", frame.number as u64),
-                    Member::NumberOrNone("old", old_packs(frame.effect)),
+                    Member::NumberOrNone("new", new_packs(*effect)),
+                    Member::Number("number", *number as u64),
+                    Member::NumberOrNone("old", old_packs(*effect)),
                     Member::Number("stamp", *stamp as u64),
-                    Member::Number("to", frame.to as u64),
+                    Member::Number("to", to as u64),
                 ],
                 out,
             ),
+            _ => Ok(false),
         }
     }
 

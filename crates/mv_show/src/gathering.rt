@@ -6,7 +6,7 @@ ghost use Rattle.mv_machine.specs.State.{is_party};
 ghost use Rattle.mv_show.specs.Shown.{party_rows, shown_rows, lines_text};
 
 use crate::lines::Lines;
-use crate::link_lines::{append_links, party_count};
+use crate::link_lines::append_links;
 use crate::naming::subjects_of;
 use crate::party_lines::append_subject;
 use mv_lines::{Member, OpenFault};
@@ -31,7 +31,7 @@ pub(crate) fn shown_lines(alloc: Global, world: Option<&World>) -> Result<Lines,
 fn append_world(lines: &mut Lines, world: &World) -> Result<(), AllocError>
     ensures { OnOk result (lines.new ≡ lines.old ++ lines_text (shown_rows (Some world.now))) }
 {
-    let count = party_count(world);
+    let count = world.hub().parties().len();
     for party in 0..count {
         append_party(lines, world, party)?;
     }

@@ -36,7 +36,7 @@ pub fn submissions_are_told()
 {}
 
 /// Each event is an object whose keys ascend in byte order, each once; so do those of the objects in it.
-#[tactic(auto, using(crate::proofs::EventOrderLemmas::events_are_ordered))]
+#[tactic(auto, using(crate::proofs::OrderLemmas::events_are_ordered))]
 pub fn events_are_ordered()
     ensures { EventsAreOrdered }
 {}

@@ -20,17 +20,10 @@ pub(crate) fn append_links(lines: &mut Lines, world: &World, from: Party) -> Res
     ensures { OnOk result (lines.new ≡ lines.old ++ lines_text (flat_map (link_rows world.now from)
         (range_with_len 0 (length world.now.hub.parties)))) }
 {
-    for to in 0..party_count(world) {
+    for to in 0..world.hub().parties().len() {
         append_link(lines, world, from, to)?;
     }
     Ok(())
-}
-
-/// How many parties there are.
-pub(crate) fn party_count(world: &World) -> u32
-    ensures { result ≡ length world.now.hub.parties }
-{
-    world.hub().parties().len()
 }
 
 /// Writes the line of a link, if it has one.

@@ -127,33 +127,24 @@ fn append_pack(lines: &mut Lines, repository: &Repository, key: &PackKey) -> Res
     match repository.pack(key) {
         Some(held) => {
             let expiry = held.expiry.text();
-            append_held(lines, repository, key, &Dated { held, expiry })
+            append_held(lines, repository, key, &held, &expiry)
         }
         None => Ok(()),
     }
 }
 
-/// A pack that is held, and the text of its expiry.
-#[derive(Drop)]
-struct Dated {
-    /// The pack.
-    held: Held,
-    /// When it expires.
-    expiry: ArrayString<6>,
-}
-
-/// Writes what a pack is that the repository holds so.
+/// Writes what a pack is that the repository holds so, and when it expires.
 fn append_held<'a>(
     lines: &mut Lines,
     repository: &'a Repository,
     key: &'a PackKey,
-    dated: &'a Dated,
+    held: &'a Held,
+    expiry: &'a ArrayString<6>,
 ) -> Result<(), AllocError>
-    requires { dated.now.expiry.bytes ≡ expiry_text dated.now.held.expiry }
+    requires { expiry.now.bytes ≡ expiry_text held.now.expiry }
     ensures { OnOk result (lines.new ≡ lines.old ++ lines_text
-        (pack_row repository.now.party repository.now.log key.now dated.now.held ∷ [])) }
+        (pack_row repository.now.party repository.now.log key.now held.now ∷ [])) }
 {
-    let held = &dated.held;
     let batch = BatchKey {
         gtin: key.gtin,
         batch: held.batch.copy(),
@@ -162,7 +153,7 @@ fn append_held<'a>(
     lines.push(&[
         Member::Text("batch", held.batch.as_str()),
         Member::Change("change", &held.change, user),
-        Member::Text("expiry", dated.expiry.as_str()),
+        Member::Text("expiry", expiry.as_str()),
         Member::Text("gtin", key.gtin.as_str()),
         Member::National("national", &held.national),
         Member::Number("party", repository.party() as u64),

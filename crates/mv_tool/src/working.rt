@@ -76,7 +76,6 @@ fn carry_out<H: Threads + Wait + Sync, G: Gate>(
 }
 
 /// The plan of these parts.
-#[tactic(auto, using(crate::proofs::WorkLemmas::sound_of))]
 fn plan_of(draft: Draft) -> Plan
     ensures parts { parts_of result ≡ draft }
     ensures sound { IsSound result }

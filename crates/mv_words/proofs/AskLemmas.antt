@@ -1,7 +1,8 @@
 -- What the words of the command line ask for, and what a parse by it met.
-use Rattle.mv_words.proofs.Names.{App, ExplainAsks, ExplainsUnsignedError, FailsBy, HasNoMinus, HasUnsignedDigitsIfOk, IsNumeral, List, None, OptionAsks, ParsesUnsigned, ReadsOne, Result, Some, String, Unsigned, WritesTurns, [], all_of, ap, append-nil, append_assoc, arith, clap_on_literals, code_rule, codes, command_line, digits_value, false, fault_of, fold, inl, inr, is_simple_and_free, length, matched_of, new_app, one_of, one_text, option_map, raw_values, refl, rows_of, strip_byte, sym, true, usize_max, with_rule, without_leading_plus, ℕ, ◌++◌, ◌<◌, ◌∙◌, ◌∷◌, ◌≡◌}
+use Rattle.mv_words.proofs.Names.{App, ExplainAsks, ExplainsUnsignedError, FailsBy, HasNoMinus, HasUnsignedDigitsIfOk, IsNumeral, List, None, OptionAsks, ParsesUnsigned, ReadsOne, Result, Some, String, Unsigned, WritesTurns, [], ap, append-nil, append_assoc, arith, clap_on_literals, code_rule, codes, command_line, false, fault_of, fold, inl, inr, is_simple_and_free, length, new_app, refl, strip_byte, sym, true, usize_max, with_rule, without_leading_plus, ℕ, ◌++◌, ◌∷◌, ◌≡◌}
 use Rattle.std.specs.Str.{bytes_eq}
 use Rattle.std.proofs.lemmas.Bool.{ne_eqb}
+use Rattle.std.proofs.lemmas.Bool.Decides.{nat_tests}
 use Rattle.clap.specs.ValueTests.{accepts}
 use Rattle.clap.proofs.ValueTestLemmas.{Accepts-accepts}
 use Rattle.std.specs.List.{AllByRecursion}
@@ -12,14 +13,11 @@ use Rattle.clap.specs.Simple.{Shape, built, built_leaf, entered, names_of}
 use Rattle.clap.proofs.FaultLemmas.{stopped_fault}
 use Rattle.clap.proofs.WalkLemmas.{one_text-rows, raw_values-rows, walk_stopped}
 use Rattle.std.specs.declared.option.Option.{Option}
-use Rattle.clap.specs.declared.parser.matches.Found.{Found}
 use Rattle.clap.specs.declared.error.Error.{Error}
 
 -- the option takes a number of turns
 turns_pass : (turns : ℕ) (text : List ℕ) → WritesTurns turns text → accepts false (Unsigned 0 4294967295) text ≡ true
-turns_pass turns text (numeral, value, fits) =
-    let small : digits_value 10 (without_leading_plus text) < 4294967296 = rw value fits in
-    Accepts-accepts false (Unsigned 0 4294967295) text (numeral, omega (arith, small), omega arith, omega (arith, small))
+turns_pass turns text (numeral, value, fits) = Accepts-accepts false (Unsigned 0 4294967295) text (numeral, omega arith, omega arith, omega arith)
 
 -- a word that begins with no minus is not `--`, and no option
 pub no_option : (word : List ℕ) → HasNoMinus word → (bytes_eq word (45 ∷ 45 ∷ []) ≡ false) × (strip_byte 45 word ≡ None)
@@ -53,29 +51,20 @@ over_words words = record {
   stopped = None;
 }
 
--- the words behind some of them lead on, without a fault
+-- the words behind some of them lead on, without a fault, and each is a value
 other_words : (before words : List Text) → AllByRecursion HasNoMinus words
     → (fold (walked explain_shape.rules []) (over_words before) words ≡ over_words (before ++ words))
-    × (walk_fault explain_shape [] (over_words before) words ≡ [])
+    × (walk_fault explain_shape [] (over_words before) words ≡ []) × (values_kinds false String words ≡ [])
 unfolding clap_on_literals
-other_words before [] all = (ap over_words (sym (append-nil before)), refl)
-other_words before (word ∷ words) (first, rest) =
-    let plain = no_option word first in
-    rw (plain.0, plain.1, plain.1) (rw append_assoc at (other_words (before ++ word ∷ []) words rest))
-
--- each word is a value
-values_pass : (words : List Text) → values_kinds false String words ≡ []
-values_pass [] = refl
-values_pass (word ∷ words) = values_pass words
+other_words before [] all = grind (arith, append-nil)
+other_words before (word ∷ words) all = grind (arith, append_assoc, no_option, other_words (before ++ word ∷ []) words)
 
 -- all of them
 all_words : (word : Text) (words : List Text) → AllByRecursion HasNoMinus (word ∷ words)
     → (walk explain_shape.rules [] nothing_held (word ∷ words) ≡ over_words (word ∷ words))
-    × (walk_fault explain_shape [] (walk_from nothing_held) (word ∷ words) ≡ [])
+    × (walk_fault explain_shape [] (walk_from nothing_held) (word ∷ words) ≡ []) × (values_kinds false String (word ∷ words) ≡ [])
 unfolding clap_on_literals
-all_words word words (first, rest) =
-    let plain = no_option word first in
-    rw (plain.0, plain.1, plain.1) (other_words (word ∷ []) words rest)
+all_words word words plain = grind (arith, no_option, other_words (word ∷ []) words)
 
 -- so these words ask for `explain`
 pub explain_asks : ExplainAsks
@@ -87,7 +76,7 @@ explain_asks program (word ∷ words) some few plain =
     let faults = stopped_fault top.top (names_of top) (walk_from nothing_held) (codes "explain", word ∷ []) words in
     let leaf = all_words word words plain in
     let passes : range_kinds 1 usize_max (length (word ∷ words)) ≡ [] = grind (arith, some, few) in (
-      rw (found, faults, leaf.0, leaf.1) (rw (passes, values_pass (word ∷ words)) refl),
+      rw (found, faults, leaf.0, leaf.1) (rw (passes, leaf.2) refl),
       _,
       _,
       ap (λ (w : Walk). entered top w.stopped) found,
@@ -100,18 +89,11 @@ pub fails_by : {T : Type 0} (line : App) (words : List (List ℕ)) (r : Result T
 unfolding clap_on_literals
 fails_by line words r is fails = (rw is at fails) refl
 
--- the matches have the text that the rows have
-pub text_given : (found : Found) (id text : List ℕ) → one_of id (rows_of found) ≡ Some text → one_text found id ≡ Some text
-text_given found id text given = one_text-rows found id ∙ given
-
--- and the texts
-pub texts_given : (found : Found) (id : List ℕ) (texts : List (List ℕ)) → all_of id (rows_of found) ≡ Some texts
-    → option_map raw_values (matched_of found id) ≡ Some texts
-texts_given found id texts given = raw_values-rows found id ∙ given
-
 -- a number of turns is read
 pub turns_read : (turns : ℕ) (text : List ℕ) (read : Option ℕ)
     → ReadsOne (λ bs r. ParsesUnsigned 32 10 bs r × ExplainsUnsignedError 10 bs r × HasUnsignedDigitsIfOk bs r) text read
     → WritesTurns turns text → read ≡ Some turns
-turns_read turns text (Some n) reads (numeral, value, fits) = ap Some (reads.0.1 ∙ value)
-turns_read turns text None (e, gives) (numeral, value, fits) = absurd (gives.0 (numeral, rw value fits))
+turns_read turns text read reads writes = grind (arith, nat_tests)
+
+-- what words came to, by their rows
+pub ruleset by_rows = (one_text-rows, raw_values-rows, turns_read)

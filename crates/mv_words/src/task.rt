@@ -1,4 +1,5 @@
 //! What the words of the command line ask for.
+#![tactic(auto, using(crate::proofs::AskLemmas::by_rows))]
 
 ghost use Rattle.std.specs.Prelude.{◌≡◌, ℕ, List, false, true, MatchResult, IfOk, Some, map, codes, string_bytes};
 ghost use Rattle.clap.specs.Words.{all_of, fault_of, FailsBy, found_of, one_of, Row, rows_of, subcommand_rows_of};
@@ -98,7 +99,6 @@ fn task_found<'a>(alloc: Global, matches: &ArgMatches<'a>) -> Result<Option<Task
 }
 
 /// Whether an option was given that has no value.
-#[tactic(auto, using(crate::proofs::AskLemmas::text_given))]
 fn is_given(given: &ArgMatches<'_>, flag: &str) -> bool
     ensures given { one_of flag.now (rows_of (found_of given.now)) ≡ Some (codes "true") → result ≡ true }
     ensures absent { one_of flag.now (rows_of (found_of given.now)) ≡ Some (codes "false") → result ≡ false }
@@ -107,7 +107,6 @@ fn is_given(given: &ArgMatches<'_>, flag: &str) -> bool
 }
 
 /// The task of `work`: none without a number of turns.
-#[tactic(auto, using(crate::proofs::AskLemmas::text_given, crate::proofs::AskLemmas::turns_read))]
 fn work_task<'a>(given: &ArgMatches<'_>) -> Option<Task<'a>>
     ensures { (turns : ℕ) (text : List ℕ)
         → one_of (codes "turns") (rows_of (found_of given.now)) ≡ Some text → WritesTurns turns text
@@ -119,7 +118,6 @@ fn work_task<'a>(given: &ArgMatches<'_>) -> Option<Task<'a>>
 }
 
 /// The task of `explain`: none without a word.
-#[tactic(auto, using(crate::proofs::AskLemmas::texts_given))]
 fn explain_task<'a>(alloc: Global, given: &ArgMatches<'a>) -> Result<Option<Task<'a>>, AllocError>
     ensures { (words : List (List ℕ)) → all_of (codes "code") (rows_of (found_of given.now)) ≡ Some words
         → IfOk result (λ task. task ≡ Some (Task.Explain words)) }

@@ -16,13 +16,8 @@ use std::alloc::{AllocError, Global};
 pub fn command_line<'a>(alloc: Global) -> Result<Command<'a>, AllocError>
     ensures { IfOk result (λ line. app_of line ≡ command_line) }
 {
-    let line = with_taking(
-        alloc,
-        program(alloc),
-        "steps",
-        STEPS,
-        flag(alloc, "strict", STRICT),
-    )?;
+    let line = program(alloc);
+    let line = with_taking(alloc, line, "steps", STEPS, flag(alloc, "strict", STRICT))?;
     let line = line.subcommand(told(alloc, "trail", TRAIL))?;
     let line = line.subcommand(told(alloc, "show", SHOW))?;
     let line = with_taking(alloc, line, "canon", CANON, flag(alloc, "check", CHECK))?;

@@ -90,7 +90,7 @@ impl Crew {
     ghost use Rattle.mv_workers.specs.inside.Crews.{AreBegun, HasTurns, IsCrewOf, IsBack, end_of, work_of};
 
     /// Gets all that a run by a plan needs. Refused for want of memory.
-    #[tactic(auto, using(crate::proofs::PlanLemmas::ends_each, crate::proofs::PlanLemmas::fresh_parties))]
+    #[tactic(auto, using(crate::proofs::PlanLemmas::fresh_ends))]
     pub(crate) fn of(alloc: Global, plan: Plan) -> Result<Crew, AllocError>
         requires { IsSound plan }
         ensures { IfOk result (λ crew. IsCrewOf plan crew) }

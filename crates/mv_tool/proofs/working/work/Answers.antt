@@ -1,10 +1,10 @@
 use Rattle.mv_tool.proofs.Words.{arith, err_from_is_err_and}
-use Rattle.mv_tool.proofs.WorkLemmas.{worked_whole, worked_part, work_stopped}
+use Rattle.mv_tool.proofs.WorkLemmas.{worked_part, worked_whole}
 use Rattle.mv_tool.proofs.working.work.Goals as goal
 
 -- memory was refused, or a plan could not be started
 pub returns-in_err-output-clause-err : goal.returns-in_err-output-clause-err
-returns-in_err-output-clause-err g c = grind (arith, err_from_is_err_and, work_stopped)
+returns-in_err-output-clause-err g c = grind (arith, err_from_is_err_and)
 
 -- the write failed
 pub returns-in_err-put_out-clause-err : goal.returns-in_err-put_out-clause-err

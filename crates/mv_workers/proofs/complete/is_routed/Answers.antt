@@ -1,5 +1,5 @@
 use Rattle.std.proofs.Common.{ltb-true, rules}
-use Rattle.mv_workers.proofs.DoneLemmas.{routed_by_count}
+use Rattle.mv_workers.proofs.WorkLemmas.{routed_by_count}
 use Rattle.mv_workers.proofs.complete.is_routed.Goals as goal
 
 pub returns : goal.returns

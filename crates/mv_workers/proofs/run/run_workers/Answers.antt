@@ -13,16 +13,16 @@ gather-outcome-requires g c =
 -- the outcome keeps the plan, and is complete
 pub returns-then-back-is_carried-clause-complete : goal.returns-then-back-is_carried-clause-complete
 returns-then-back-is_carried-clause-complete g c =
-    judged_ok c.args.plan c.in-Ok.course.turns c.args.turns c.in-Ok.ensures c.in-Ok-of.crew c.in-Some.back c.in-Ok-of.ensures c.in-Some.ensures.1 c.gather-outcome.result c.gather-outcome.ensures.outcome
+    judged_ok c.args.plan c.args.turns c.in-Ok-of.crew c.in-Some.back c.in-Ok-of.ensures (rw c.in-Ok.ensures at c.in-Some.ensures.1) c.gather-outcome.result c.gather-outcome.ensures.outcome
     (c.if-not-is_sound.ensures.0 refl) c.gather-outcome.ensures.lawful c.gather-outcome.ensures.few c.is_carried.result c.is_carried.ensures c.if-back-is_carried.true
 
 -- or is not complete
 pub returns-then-back-clause-fault : goal.returns-then-back-clause-fault
 returns-then-back-clause-fault g c =
-    judged_err c.args.plan c.in-Ok.course.turns c.args.turns c.in-Ok.ensures c.in-Ok-of.crew c.in-Some.back c.in-Ok-of.ensures c.in-Some.ensures.1 c.gather-outcome.result c.gather-outcome.ensures.outcome
+    judged_err c.args.plan c.args.turns c.in-Ok-of.crew c.in-Some.back c.in-Ok-of.ensures (rw c.in-Ok.ensures at c.in-Some.ensures.1) c.gather-outcome.result c.gather-outcome.ensures.outcome
     (c.if-not-is_sound.ensures.0 refl) c.gather-outcome.ensures.lawful c.gather-outcome.ensures.few c.is_carried.result c.is_carried.ensures c.if-back-is_carried.false
 
 pub returns-clause-fault : goal.returns-clause-fault
 returns-clause-fault g c =
-    judged_err c.args.plan c.in-Ok.course.turns c.args.turns c.in-Ok.ensures c.in-Ok-of.crew c.in-Some.back c.in-Ok-of.ensures c.in-Some.ensures.1 c.gather-outcome.result c.gather-outcome.ensures.outcome
+    judged_err c.args.plan c.args.turns c.in-Ok-of.crew c.in-Some.back c.in-Ok-of.ensures (rw c.in-Ok.ensures at c.in-Some.ensures.1) c.gather-outcome.result c.gather-outcome.ensures.outcome
     (c.if-not-is_sound.ensures.0 refl) c.gather-outcome.ensures.lawful c.gather-outcome.ensures.few c.is_carried.result c.is_carried.ensures c.if-back-is_carried.false

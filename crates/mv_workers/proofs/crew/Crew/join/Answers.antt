@@ -1,5 +1,5 @@
 use Rattle.mv_workers.proofs.Words.{All, HasTurns, ◌∙◌, [], ◌∷◌, ◌++◌, length, append_assoc, ap, refl, subst, sym, arith, rules, All-head, All-tail}
-use Rattle.mv_workers.proofs.CrewLemmas.{begun_more}
+use Rattle.mv_workers.proofs.WorkLemmas.{begun_more}
 use Rattle.mv_workers.proofs.crew.Crew.join.Goals as goal
 
 -- one more worker gave its end back

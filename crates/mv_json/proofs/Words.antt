@@ -21,7 +21,7 @@ pub use Rattle.mv_json.specs.Values.{since_two, strings, whole}
 pub use Rattle.mv_json.specs.Words.{AllByRecursion, Field, IsCode, Message, MessageFault, One, PackFault, Two, Version, items_of, items_view, list_all, list_any, members_view, option_map_or, read_code, view}
 pub use Rattle.mv_json.specs.declared.part.Entry.{Entry}
 pub use Rattle.mv_json.specs.inside.Parts.{BeginWithPart, BeginWithTexts, HasEntries, HasMet, IsPart, IsPlace, IsTaken, IsThere, deep_in, entry, entry_name}
-unfoldable pub use Rattle.mv_json.specs.inside.Parts.{IsOneOf, there}
+unfoldable pub use Rattle.mv_json.specs.inside.Parts.{ArePlaced, IsOneOf, field_number, there}
 pub use Rattle.mv_json.specs.inside.Shapes.{HasWords}
 pub use Rattle.mv_json.specs.inside.Tokens.{members_of, members_put, version_member}
 unfoldable pub use Rattle.mv_json.specs.inside.Tokens.{PutsValue}

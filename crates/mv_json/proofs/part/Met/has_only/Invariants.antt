@@ -1,5 +1,5 @@
 use Rattle.mv_json.proofs.Words.{All, take, IsOneOf}
-use Rattle.mv_json.proofs.object.Object.has_met_only.Given as goal
+use Rattle.mv_json.proofs.part.Met.has_only.Given as goal
 
 -- each field so far is one of these
 abbrev pub invariant-loop-met : goal.invariant-loop-met

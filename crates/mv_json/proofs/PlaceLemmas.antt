@@ -1,0 +1,43 @@
+-- Where the fields that were met stand among them, by their numbers.
+use Rattle.mv_json.proofs.Words.{◌≡◌, ◌∙◌, ◌<◌, ◌≢◌, ◌++◌, ◌∷◌, [], ℕ, suc, All, Bool, true, false, List, arith, length, sym, Entry, Field, entry, field_number, IsOneOf, IsTaken, ArePlaced}
+use Rattle.mv_json.specs.declared.part.Met.{Met}
+use Rattle.mv_json.specs.declared.part.Part.{Part}
+use Rattle.std.proofs.Common.{IsTrue, get_or, length-set, set}
+use Rattle.std.proofs.Math.ListN.{get_or-append}
+use Rattle.std.proofs.lemmas.List.Elements.{All-from_get_or}
+use Rattle.std.proofs.lemmas.List.{length_push, get_or_push, get_or-set_same, get_or-set_other}
+
+-- two fields have two numbers
+pub number_apart : (f g : Field) → field_number f ≡ field_number g → f ≡ g
+unfolding field_number
+number_apart f g same = grind arith
+
+-- a field under whose number no entry of it stands was not met
+pub not_met : (met : Met) (field : Field) (after : ℕ) (d : Entry) → get_or met.places (field_number field) 0 ≡ after
+    → ((k : ℕ) → after ≡ suc k → k < length met.entries.items → (get_or met.entries.items k d).field ≢ field)
+    → ArePlaced met → All (λ other. other.field ≢ field) met.entries.items
+unfolding ArePlaced
+not_met met field after d at none are =
+    All-from_get_or (λ other. other.field ≢ field) met.entries.items d (λ k within is. none k (sym at ∙ rw is at (are k d within)) within is)
+
+-- a field more was met
+pub one_more_placed : (old new : Met) (field : Field) (part : Part) → get_or old.places (field_number field) 0 ≡ 0 → field_number field < length old.places
+    → new.entries.items ≡ old.entries.items ++ entry field part ∷ []
+    → new.places ≡ set old.places (field_number field) (suc (length old.entries.items)) → ArePlaced old → ArePlaced new
+unfolding ArePlaced
+one_more_placed old new field part free within added placed are k d h =
+    grind (arith, are k d, length_push, get_or-append, get_or_push, get_or-set_same, get_or-set_other)
+
+-- what stands in a field was taken out
+pub taken_placed : (old new : Met) (field : Field) (part : Part) → IsTaken old field part new → ArePlaced old → ArePlaced new
+unfolding ArePlaced
+taken_placed old new field part taken are k d h =
+    let was = are taken.place (entry field part) taken.within in
+    grind (arith, taken.was, taken.taken, taken.kept, was, are k d, get_or-set_same, get_or-set_other, length-set)
+
+-- one field more has its mark
+pub one_more_marked : (fields : List Field) (marks : List Bool) (here : Field) → IsOneOf fields here
+    → ((field : Field) → IsTrue (get_or marks (field_number field) false) → IsOneOf fields field)
+    → (field : Field) → IsTrue (get_or (set marks (field_number here) true) (field_number field) false) → IsOneOf fields field
+one_more_marked fields marks here at before field marked =
+    grind (arith, before field, number_apart field here, get_or-set_other marks (field_number here) (field_number field) true false)

@@ -4,21 +4,12 @@ use Rattle.mv_json.specs.declared.part.Met.{Met}
 use Rattle.mv_json.specs.declared.part.Part.{Part}
 use Rattle.std.proofs.Common.{IsTrue, get_or, length-set, set}
 use Rattle.std.proofs.Math.ListN.{get_or-append}
-use Rattle.std.proofs.lemmas.List.Elements.{All-from_get_or}
 use Rattle.std.proofs.lemmas.List.{length_push, get_or_push, get_or-set_same, get_or-set_other}
 
 -- two fields have two numbers
 pub number_apart : (f g : Field) → field_number f ≡ field_number g → f ≡ g
 unfolding field_number
 number_apart f g same = grind arith
-
--- a field under whose number no entry of it stands was not met
-pub not_met : (met : Met) (field : Field) (after : ℕ) (d : Entry) → get_or met.places (field_number field) 0 ≡ after
-    → ((k : ℕ) → after ≡ suc k → k < length met.entries.items → (get_or met.entries.items k d).field ≢ field)
-    → ArePlaced met → All (λ other. other.field ≢ field) met.entries.items
-unfolding ArePlaced
-not_met met field after d at none are =
-    All-from_get_or (λ other. other.field ≢ field) met.entries.items d (λ k within is. none k (sym at ∙ rw is at (are k d within)) within is)
 
 -- a field more was met
 pub one_more_placed : (old new : Met) (field : Field) (part : Part) → get_or old.places (field_number field) 0 ≡ 0 → field_number field < length old.places
@@ -36,8 +27,8 @@ taken_placed old new field part taken are k d h =
     grind (arith, taken.was, taken.taken, taken.kept, was, are k d, get_or-set_same, get_or-set_other, length-set)
 
 -- one field more has its mark
-pub one_more_marked : (fields : List Field) (marks : List Bool) (here : Field) → IsOneOf fields here
+pub one_more_marked : (fields : List Field) (marks : List Bool) (n : ℕ) (here : Field) → n ≡ field_number here → IsOneOf fields here
     → ((field : Field) → IsTrue (get_or marks (field_number field) false) → IsOneOf fields field)
-    → (field : Field) → IsTrue (get_or (set marks (field_number here) true) (field_number field) false) → IsOneOf fields field
-one_more_marked fields marks here at before field marked =
-    grind (arith, before field, number_apart field here, get_or-set_other marks (field_number here) (field_number field) true false)
+    → (field : Field) → IsTrue (get_or (set marks n true) (field_number field) false) → IsOneOf fields field
+one_more_marked fields marks n here is at before field marked =
+    grind (arith, before field, number_apart field here, get_or-set_other marks n (field_number field) true false)

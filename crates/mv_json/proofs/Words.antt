@@ -38,8 +38,8 @@ pub use Rattle.serde_json.specs.Read.{converted, max_depth, number_of, of_items,
 pub use Rattle.serde_json.specs.Written.{compact_text, items_outline, members_outline, outline}
 pub use Rattle.serde_json.specs.declared.value.Value.{Value}
 pub use Rattle.std.proofs.Common.{All, Bool, Contains, IsUtf8, List, None, Ok, Option, Result, Some, String, [], ap, append-nil, append_assoc, arith, bytes_eq, cond, drop, false, find, is_some, length, map, max, not, option_map, refl, rules, string_bytes, subst, suc, sym, take, true, vec_capacity, vec_len, ℕ, ◌&&◌, ◌*◌, ◌++◌, ◌+◌, ◌-◌, ◌<◌, ◌^◌, ◌∙◌, ◌∷◌, ◌≡◌, ◌≢◌, ◌≤◌}
-pub use Rattle.std.proofs.lemmas.List.{get_or-map, length-map, map-append, take_all}
-pub use Rattle.std.proofs.lemmas.List.Elements.{All-contains, All-map, All-push, All-set, Contains-append_left, Contains-push}
+pub use Rattle.std.proofs.lemmas.List.{get_or-map, get_or_default, length-map, map-append, take_all}
+pub use Rattle.std.proofs.lemmas.List.Elements.{All-contains, All-map, All-push, All-set, Contains-append_left, Contains-get_or, Contains-push}
 pub use Rattle.std.proofs.lemmas.Str.{IsUtf8-string_bytes}
 unfoldable pub use Rattle.std.specs.List.Sorted.{IsStrictlySortedBy}
 pub use Rattle.std.specs.Ordering.{is_lt, nat_cmp}

@@ -9,14 +9,10 @@ use crate::Field;
 use crate::form::Version;
 use mv_message::{Boxed, Found};
 use mv_pack::{Market, Serial};
-use std::alloc::Global;
 use std::mem;
 
-/// How many fields a message has at most.
-const MOST_FIELDS: usize = 12;
-
 /// More than the number of any field.
-const NUMBERS: usize = 32;
+pub(crate) const NUMBERS: usize = 32;
 
 /// What stands in a field, as its tokens say.
 #[derive(Drop)]
@@ -61,24 +57,14 @@ pub(crate) struct Entry<'a> {
 #[derive(Drop)]
 pub(crate) struct Met<'a> {
     /// What was met, in order.
-    entries: Vec<Entry<'a>>,
+    pub(crate) entries: Vec<Entry<'a>>,
     /// By the number of a field, one more than its place among them; 0 where it was not met.
-    places: [u8; NUMBERS],
+    pub(crate) places: [u8; NUMBERS],
 }
 
 impl<'a> Met<'a> {
-    /// None so far.
-    pub(crate) fn none(alloc: Global) -> Option<Met<'a>>
-        ensures { IfSome result (λ met. met.entries.items ≡ []) }
-    {
-        let entries = Vec::with_capacity(alloc, MOST_FIELDS).ok()?;
-        Some(Met {
-            entries,
-            places: [0; NUMBERS],
-        })
-    }
-
     /// Adds an entry, unless its field was met before or memory is refused, and says whether it did.
+    #[tactic(auto, using(crate::proofs::PlaceLemmas::one_more_placed), unfolding(crate::specs::inside::Parts::ArePlaced))]
     #[inline(always)]
     pub(crate) fn adds(&mut self, field: Field, part: Part<'a>) -> bool
         ensures added { IsTrue result → self.new.entries.items ≡ self.old.entries.items ++ entry field part.entry ∷ [] }
@@ -114,18 +100,19 @@ impl<'a> Met<'a> {
     }
 
     /// The place of a field among those that were met.
-    #[tactic(auto, using(crate::proofs::PlaceLemmas::not_met))]
+    #[tactic(auto, unfolding(crate::specs::inside::Parts::ArePlaced))]
     fn place_of(&self, field: Field) -> Option<usize>
         ensures { MatchOption result
             (ArePlaced self.now → All (λ other. other.field ≢ field) self.now.entries.items)
             (λ place. (place < length self.now.entries.items)
             × ((d : AnEntry) → (get_or self.now.entries.items place d).field ≡ field)) }
     {
-        let after = self.places[number_of(field)] as usize;
-        if after == 0 || after > self.entries.len() {
-            return None;
-        }
-        if !is_same(self.entries[after - 1].field, field) {
+        let number = number_of(field);
+        let after = self.places[number] as usize;
+        if after == 0
+            || after > self.entries.len()
+            || number_of(self.entries[after - 1].field) != number
+        {
             return None;
         }
         Some(after - 1)
@@ -164,12 +151,4 @@ fn number_of(field: Field) -> usize
     ensures bound { result < 32 }
 {
     field as usize
-}
-
-/// Whether two fields are one. Their numbers are faster to compare than they are.
-#[inline(always)]
-fn is_same(left: Field, right: Field) -> bool
-    ensures { MatchBool result (left ≡ right) (left ≢ right) }
-{
-    left as u8 == right as u8 && left == right
 }

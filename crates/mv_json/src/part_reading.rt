@@ -10,11 +10,14 @@ use crate::Field;
 use crate::found_reading::sighting_in;
 use crate::lists::{Listed, MOST_MARKETS, MOST_SERIALS};
 use crate::object::Object;
-use crate::part::{Met, Part, Sighting};
+use crate::part::{Met, NUMBERS, Part, Sighting};
 use json::Token;
 use mv_message::Boxed;
 use mv_tokens::{Reader, whole_of};
 use std::alloc::Global;
+
+/// How many fields a message has at most.
+const MOST_FIELDS: usize = 12;
 
 /// Takes the rest of an object, behind its opening brace, with its fields in any order, each once. One inside another holds no further
 /// one, and no list.
@@ -27,7 +30,9 @@ pub(crate) fn take_members<'a>(
     ensures { IfSome result (λ met. BeginWithEntries (suc (deep_in is_inside))
         (begin_object ∷ reader.old) met reader.new) }
 {
-    let mut met = Met::none(alloc)?;
+    let entries = Vec::with_capacity(alloc, MOST_FIELDS).ok()?;
+    let places = [0; NUMBERS];
+    let mut met = Met { entries, places };
     while let Some(field) = next_field(reader)? {
         let part = take_part(alloc, reader, field, is_inside)?;
         if !met.adds(field, part) {

@@ -1,6 +1,5 @@
-use Rattle.mv_json.proofs.Words.{arith, field_number, IsOneOf}
+use Rattle.mv_json.proofs.Words.{arith, Contains-get_or, IsOneOf, field_number}
 use Rattle.mv_json.proofs.PlaceLemmas.{one_more_marked}
-use Rattle.std.proofs.lemmas.List.Elements.{Contains-get_or}
 use Rattle.mv_json.proofs.part.marked.Goals as goal
 
 pub loop-field-init : goal.loop-field-init
@@ -11,4 +10,4 @@ pub loop-field-preserved : goal.loop-field-preserved
 unfolding IsOneOf
 loop-field-preserved c =
     let here = Contains-get_or c.args.fields.now c.loop-field.field-index _ (omega arith) in
-    rw c.number_of.ensures.value (one_more_marked _ c.loop-field.marks _ here c.loop-field.invariant)
+    one_more_marked _ c.loop-field.marks _ _ c.number_of.ensures.value here c.loop-field.invariant

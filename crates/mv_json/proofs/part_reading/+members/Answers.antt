@@ -6,7 +6,7 @@ use Rattle.mv_json.proofs.part_reading.+members.Goals as goal
 
 pub take_members-loop-met-init : goal.take_members-loop-met-init
 unfolding ArePlaced
-take_members-loop-met-init t c = let none : c.in_ok-met.met.entries.items ≡ [] = search rules in (rw none (none_met _ _ _ _), grind arith)
+take_members-loop-met-init t c = let none : c.in_ok-entries.entries.items ≡ [] = search rules in (rw none (none_met _ _ _ _), grind (arith, none))
 
 pub take_members-loop-met-smaller : goal.take_members-loop-met-smaller
 take_members-loop-met-smaller t c =

@@ -1,10 +1,6 @@
 -- Where the fields that were met stand among them, by their numbers.
-use Rattle.mv_json.proofs.Words.{◌≡◌, ◌∙◌, ◌<◌, ◌≢◌, ◌++◌, ◌∷◌, [], ℕ, suc, All, Bool, true, false, List, arith, length, sym, Entry, Field, entry, field_number, IsOneOf, IsTaken, ArePlaced}
-use Rattle.mv_json.specs.declared.part.Met.{Met}
-use Rattle.mv_json.specs.declared.part.Part.{Part}
-use Rattle.std.proofs.Common.{IsTrue, get_or, length-set, set}
+use Rattle.mv_json.proofs.Words.{◌≡◌, ◌<◌, ◌++◌, ◌∷◌, [], ℕ, suc, Bool, true, false, List, IsTrue, arith, get_or, length, set, ArePlaced, Field, IsOneOf, IsTaken, Met, Part, entry, field_number, get_or_push, get_or-set_same, get_or-set_other, length-set, length_push}
 use Rattle.std.proofs.Math.ListN.{get_or-append}
-use Rattle.std.proofs.lemmas.List.{length_push, get_or_push, get_or-set_same, get_or-set_other}
 
 -- two fields have two numbers
 pub number_apart : (f g : Field) → field_number f ≡ field_number g → f ≡ g

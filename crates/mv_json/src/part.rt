@@ -1,8 +1,7 @@
 //! The fields of an object as they are met, in any order, and what stands in each.
 
-ghost use Rattle.std.specs.Prelude.{◌≡◌, ◌≢◌, ◌<◌, ◌∷◌, ◌++◌, [], All, Contains, MatchBool, MatchOption, IsTrue, IfSome, get_or, length, false};
-ghost use Rattle.mv_json.specs.inside.Parts.{entry, field_number, ArePlaced, IsOneOf, IsTaken};
-ghost use Rattle.mv_json.specs.declared.field.Field.{Field as AField};
+ghost use Rattle.std.specs.Prelude.{◌≡◌, ◌≢◌, ◌<◌, ◌∷◌, ◌++◌, [], All, Contains, MatchOption, IsTrue, IfSome, get_or, length};
+ghost use Rattle.mv_json.specs.inside.Parts.{entry, ArePlaced, field_number, IsOneOf, IsTaken};
 ghost use Rattle.mv_json.specs.declared.part.Entry.{Entry as AnEntry};
 
 use crate::Field;
@@ -122,7 +121,11 @@ impl<'a> Met<'a> {
     pub(crate) fn has_only(&self, fields: &[Field]) -> bool
         ensures { IsTrue result → All (λ met. IsOneOf fields.now met.field) self.now.entries.items }
     {
-        let marks = marked(fields);
+        // By the number of a field, whether it is one of these.
+        let mut marks = [false; NUMBERS];
+        for field in fields {
+            marks[number_of(*field)] = true;
+        }
         for met in &self.entries {
             if !marks[number_of(met.field)] {
                 return false;
@@ -130,17 +133,6 @@ impl<'a> Met<'a> {
         }
         true
     }
-}
-
-/// By the number of a field, whether it is one of these.
-fn marked(fields: &[Field]) -> [bool; NUMBERS]
-    ensures { (field : AField) → IsTrue (get_or result (field_number field) false) → IsOneOf fields.now field }
-{
-    let mut marks = [false; NUMBERS];
-    for field in fields {
-        marks[number_of(*field)] = true;
-    }
-    marks
 }
 
 /// The number of a field.

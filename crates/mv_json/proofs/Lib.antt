@@ -7,5 +7,6 @@ pub mod ReadingLemmas
 pub mod ReadsLemmas
 pub mod OrderLemmas
 pub mod MetLemmas
+pub mod PlaceLemmas
 pub mod PartLemmas
 pub mod CallerLemmas

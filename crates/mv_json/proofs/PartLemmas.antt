@@ -1,10 +1,10 @@
 -- What stands in the fields of a message: its tokens, and what is read of it.
-use Rattle.mv_json.proofs.Words.{IsPlace, IsThere, there, ◌≡◌, ◌∙◌, ◌≤◌, ℕ, Bool, true, false, List, [], ◌∷◌, ◌++◌, length, ap, sym, subst, refl, arith, Option, Some, None, Result, Ok, All, is_some, IsUtf8, ◌≢◌, All-map, All-set, AllByRecursion, BeginWith, BeginWithMessage, BeginWithPart, BeginWithTexts, Data, Entry, Field, HasEntries, IsCode, IsListOf, IsMarket, IsPart, IsTaken, Message, PackFault, Token, array, as_bool, as_null, as_str, begin_array, entry, entry_name, field_name, get, items, key, list_at, most_markets, most_serials, of_items, read_bytes, read_code, read_market, strings, tokens, value, value-begin_array, value_is, whole_number}
+use Rattle.mv_json.proofs.Words.{ArePlaced, IsPlace, IsThere, there, ◌≡◌, ◌∙◌, ◌≤◌, ℕ, Bool, true, false, List, [], ◌∷◌, ◌++◌, length, ap, sym, subst, refl, arith, Option, Some, None, Result, Ok, All, is_some, IsUtf8, ◌≢◌, All-map, All-set, AllByRecursion, BeginWith, BeginWithMessage, BeginWithPart, BeginWithTexts, Data, Entry, Field, HasEntries, HasMet, IsCode, IsListOf, IsMarket, IsPart, IsTaken, Message, PackFault, Token, array, as_bool, as_null, as_str, begin_array, entry, entry_name, field_name, get, items, key, list_at, Met, Part, most_markets, most_serials, of_items, read_bytes, read_code, read_market, strings, tokens, value, value-begin_array, value_is, whole_number}
 use Rattle.mv_json.proofs.MetLemmas.{AreMet, one_more_met, weaker}
 use Rattle.mv_json.proofs.ReadingLemmas.{none_named, Inverts, codes_inverted, markets_inverted, list_agrees}
+use Rattle.mv_json.proofs.PlaceLemmas.{taken_placed}
 use Rattle.mv_json.proofs.ValueLemmas.{utf8_test}
 use Rattle.mv_json.specs.declared.object.Place.{Place}
-use Rattle.mv_json.specs.declared.part.Part.{Part}
 use Rattle.std.proofs.Math.Seq.{map-set_same}
 use Rattle.json.specs.Json as json
 use Rattle.json.specs.Token as token
@@ -71,28 +71,28 @@ part_is found part is = grind arith
 -- ---- lists that are taken out
 
 -- what was taken out stood there, and the object is what it was
-part_taken : (value : Data) (old new : List Entry) (field : Field) (part : Part) → HasEntries value old → IsTaken old field part new
+part_taken : (value : Data) (old new : Met) (field : Field) (part : Part) → HasEntries value old → IsTaken old field part new
     → ((found : Data) → IsPart found part → IsPart found parts.Taken) → ((found : Data) × (get (field_name field) value ≡ Some found) × IsPart found part) × HasEntries value new
-part_taken value old new field part has taken is_list =
+part_taken value old new field part (has, are) taken is_list =
     let Says : Entry → Type 0 = λ met. (found : Data) × (get (entry_name met) value ≡ Some found) × IsPart found met.part in
     let (found, at, is) = subst Says taken.was (has.says taken.place (entry field part) taken.within) in
-    let names = map-set_same entry_name old taken.place (entry field parts.Taken) (entry field part) (ap entry_name (sym taken.was)) in (
-      (found, at, is),
-      rw taken.taken (record {
-        members = has.members;
-        is = has.is;
-        says = All-set Says old taken.place (entry field parts.Taken) (found, at, is_list found is) has.says;
-        only = rw names has.only;
-      }),
-    )
+    let entries = old.entries.items in
+    let names = map-set_same entry_name entries taken.place (entry field parts.Taken) (entry field part) (ap entry_name (sym taken.was)) in
+    let still : HasMet entry_name (λ part entry. IsPart part entry.part) value new.entries.items = rw taken.taken (record {
+      members = has.members;
+      is = has.is;
+      says = All-set Says entries taken.place (entry field parts.Taken) (found, at, is_list found is) has.says;
+      only = rw names has.only;
+    }) in
+    ((found, at, is), (still, taken_placed old new field part taken are))
 
-pub markets_taken : (value : Data) (old new : List Entry) (field : Field) (x : _) → HasEntries value old → IsTaken old field (parts.Markets x) new
+pub markets_taken : (value : Data) (old new : Met) (field : Field) (x : _) → HasEntries value old → IsTaken old field (parts.Markets x) new
     → (list_at read_market most_markets field value ≡ Ok x.items) × HasEntries value new
 markets_taken value old new field x has taken =
     let ((found, at, (is, hold)), left) = part_taken value old new field (parts.Markets x) has taken (λ found is. (strings x.items, is.0)) in
     ((list_agrees read_market IsMarket markets_inverted most_markets value field).read x.items (at ∙ ap (λ d. Some d) is, hold), left)
 
-pub serials_taken : (value : Data) (old new : List Entry) (field : Field) (x : _) → HasEntries value old → IsTaken old field (parts.Serials x) new
+pub serials_taken : (value : Data) (old new : Met) (field : Field) (x : _) → HasEntries value old → IsTaken old field (parts.Serials x) new
     → (list_at read_code most_serials field value ≡ Ok x.items) × HasEntries value new
 serials_taken value old new field x has taken =
     let ((found, at, (is, hold)), left) = part_taken value old new field (parts.Serials x) has taken (λ found is. (strings x.items, is.0)) in
@@ -101,10 +101,10 @@ serials_taken value old new field x has taken =
 -- ---- fields that are not there
 
 -- a field that was not met is not there
-pub not_there : (field : Field) (value : Data) (entries : List Entry) → HasEntries value entries → All (λ other. other.field ≢ field) entries
+pub not_there : (field : Field) (value : Data) (met : Met) → HasEntries value met → (ArePlaced met → All (λ other. other.field ≢ field) met.entries.items)
     → get (field_name field) value ≡ None
-not_there field value entries has apart =
-    let others = All-map (λ name. name ≢ field_name field) entry_name entries (λ k d h. name_apart _ field (apart k d h)) in
+not_there field value met (has, are) apart =
+    let others = All-map (λ name. name ≢ field_name field) entry_name met.entries.items (λ k d h. name_apart _ field (apart are k d h)) in
     grind (arith, others, none_named, weaker)
 
 -- what stands in a field, stands there

@@ -20,8 +20,10 @@ pub use Rattle.mv_json.specs.Tokens.{Puts, tokens_of}
 pub use Rattle.mv_json.specs.Values.{since_two, strings, whole}
 pub use Rattle.mv_json.specs.Words.{AllByRecursion, Field, IsCode, Message, MessageFault, One, PackFault, Two, Version, items_of, items_view, list_all, list_any, members_view, option_map_or, read_code, view}
 pub use Rattle.mv_json.specs.declared.part.Entry.{Entry}
+pub use Rattle.mv_json.specs.declared.part.Met.{Met}
+pub use Rattle.mv_json.specs.declared.part.Part.{Part}
 pub use Rattle.mv_json.specs.inside.Parts.{BeginWithPart, BeginWithTexts, HasEntries, HasMet, IsPart, IsPlace, IsTaken, IsThere, deep_in, entry, entry_name}
-unfoldable pub use Rattle.mv_json.specs.inside.Parts.{IsOneOf, there}
+unfoldable pub use Rattle.mv_json.specs.inside.Parts.{ArePlaced, IsOneOf, field_number, there}
 pub use Rattle.mv_json.specs.inside.Shapes.{HasWords}
 pub use Rattle.mv_json.specs.inside.Tokens.{members_of, members_put, version_member}
 unfoldable pub use Rattle.mv_json.specs.inside.Tokens.{PutsValue}
@@ -37,9 +39,9 @@ pub use Rattle.serde_json.specs.Find.{as_bool, as_null, as_str, get, get_member}
 pub use Rattle.serde_json.specs.Read.{converted, max_depth, number_of, of_items, of_json, of_members, read}
 pub use Rattle.serde_json.specs.Written.{compact_text, items_outline, members_outline, outline}
 pub use Rattle.serde_json.specs.declared.value.Value.{Value}
-pub use Rattle.std.proofs.Common.{All, Bool, Contains, IsUtf8, List, None, Ok, Option, Result, Some, String, [], ap, append-nil, append_assoc, arith, bytes_eq, cond, drop, false, find, is_some, length, map, max, not, option_map, refl, rules, string_bytes, subst, suc, sym, take, true, vec_capacity, vec_len, ℕ, ◌&&◌, ◌*◌, ◌++◌, ◌+◌, ◌-◌, ◌<◌, ◌^◌, ◌∙◌, ◌∷◌, ◌≡◌, ◌≢◌, ◌≤◌}
-pub use Rattle.std.proofs.lemmas.List.{get_or-map, length-map, map-append, take_all}
-pub use Rattle.std.proofs.lemmas.List.Elements.{All-contains, All-map, All-push, All-set, Contains-append_left, Contains-push}
+pub use Rattle.std.proofs.Common.{All, Bool, Contains, IsTrue, IsUtf8, List, None, Ok, Option, Result, Some, String, [], ap, append-nil, append_assoc, arith, bytes_eq, cond, drop, false, find, get_or, is_some, length, length-set, map, max, not, option_map, refl, rules, set, string_bytes, subst, suc, sym, take, true, vec_capacity, vec_len, ℕ, ◌&&◌, ◌*◌, ◌++◌, ◌+◌, ◌-◌, ◌<◌, ◌^◌, ◌∙◌, ◌∷◌, ◌≡◌, ◌≢◌, ◌≤◌}
+pub use Rattle.std.proofs.lemmas.List.{get_or-map, get_or-set_other, get_or-set_same, get_or_default, get_or_push, length-map, length_push, map-append, take_all}
+pub use Rattle.std.proofs.lemmas.List.Elements.{All-contains, All-map, All-push, All-set, Contains-append_left, Contains-get_or, Contains-push}
 pub use Rattle.std.proofs.lemmas.Str.{IsUtf8-string_bytes}
 unfoldable pub use Rattle.std.specs.List.Sorted.{IsStrictlySortedBy}
 pub use Rattle.std.specs.Ordering.{is_lt, nat_cmp}

@@ -11,7 +11,7 @@ ghost use Rattle.mv_json.specs.inside.Parts.{Gives, MayGive, IsPart, IsValue, St
 use crate::form::Version;
 use crate::members::first_unknown;
 use crate::object::Object;
-use crate::part::{Part, Sighting, find};
+use crate::part::{Part, Sighting};
 use crate::reading::{batch_at, expiry_at, national_at, standing_at, truth_at};
 use crate::{Field, MessageFault};
 use mv_message::Found;
@@ -24,7 +24,7 @@ pub(crate) fn found_at(object: &Object<'_>, version: Version) -> Result<Found, M
     ensures no_memory { IsValue object.now → IfErr result (λ fault. fault ≢ MessageFault.Memory) }
 {
     match object {
-        Object::Met(entries) => match find(entries, Field::Found) {
+        Object::Met(met) => match met.find(Field::Found) {
             Some(part) => found_in(part, version),
             None => Err(MessageFault::Memory),
         },

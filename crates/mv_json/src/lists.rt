@@ -7,7 +7,7 @@ ghost use Rattle.mv_json.specs.Reading.{texts_at, read_item, list_at};
 ghost use Rattle.mv_json.specs.inside.Parts.{Takes};
 
 use crate::object::Object;
-use crate::part::{Part, take};
+use crate::part::Part;
 use crate::reading::in_field;
 use crate::{Field, MessageFault};
 use mv_message::{Markets, Serials};
@@ -66,7 +66,7 @@ pub(crate) fn markets_at(
     ensures { Takes (list_at read_market most_markets field) object.old object.new result }
 {
     match object {
-        Object::Met(entries) => match take(entries, field) {
+        Object::Met(met) => match met.take(field) {
             Some(Part::Markets(list)) => Ok(Markets::new(list)),
             _ => Err(MessageFault::Memory),
         },
@@ -83,7 +83,7 @@ pub(crate) fn serials_at(
     ensures { Takes (list_at read_code most_serials field) object.old object.new result }
 {
     match object {
-        Object::Met(entries) => match take(entries, field) {
+        Object::Met(met) => match met.take(field) {
             Some(Part::Serials(list)) => Ok(Serials::new(list)),
             _ => Err(MessageFault::Memory),
         },

@@ -6,17 +6,17 @@ ghost use Rattle.mv_json.specs.Words.{Data, as_bool, as_null, as_str, get};
 ghost use Rattle.mv_json.specs.Fields.{field_name};
 ghost use Rattle.mv_json.specs.Reading.{whole_number};
 ghost use Rattle.mv_json.specs.Members.{HasOnly};
-ghost use Rattle.mv_json.specs.inside.Parts.{IsOneOf, IsPlace, IsThere, Stands};
+ghost use Rattle.mv_json.specs.inside.Parts.{IsPlace, IsThere, Stands};
 
 use crate::Field;
-use crate::part::{Entry, Part, find, is_same};
+use crate::part::{Met, Part};
 use serde_json::Value;
 
 /// An object.
 #[derive(Drop)]
 pub(crate) enum Object<'a> {
     /// The fields that were met, and no other.
-    Met(Vec<Entry<'a>>),
+    Met(Met<'a>),
     /// A value.
     Value(&'a Value),
 }
@@ -39,7 +39,7 @@ impl Object<'_> {
             (IsThere field value) }
     {
         match self {
-            Object::Met(entries) => Some(Place::Part(find(entries, field)?)),
+            Object::Met(met) => Some(Place::Part(met.find(field)?)),
             Object::Value(value) => Some(Place::Value(value.get(field.as_str())?)),
         }
     }
@@ -48,29 +48,11 @@ impl Object<'_> {
     pub(crate) fn has_met_only(&self, fields: &[Field]) -> bool
         ensures { IsTrue result → (value : Data) → Stands value self.now → HasOnly (map field_name fields.now) value }
     {
-        let Object::Met(entries) = self else {
-            return false;
-        };
-        for met in entries {
-            if !is_one_of(met.field, fields) {
-                return false;
-            }
-        }
-        true
-    }
-}
-
-/// Whether a field is one of these.
-#[tactic(auto, unfolding(crate::specs::inside::Parts::IsOneOf))]
-fn is_one_of(field: Field, fields: &[Field]) -> bool
-    ensures { IsTrue result → IsOneOf fields.now field }
-{
-    for other in fields {
-        if is_same(*other, field) {
-            return true;
+        match self {
+            Object::Met(met) => met.has_only(fields),
+            Object::Value(_) => false,
         }
     }
-    false
 }
 
 impl<'a> Place<'a> {

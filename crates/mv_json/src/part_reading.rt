@@ -10,7 +10,7 @@ use crate::Field;
 use crate::found_reading::sighting_in;
 use crate::lists::{Listed, MOST_MARKETS, MOST_SERIALS};
 use crate::object::Object;
-use crate::part::{Entry, Part, Sighting, adds};
+use crate::part::{Met, NUMBERS, Part, Sighting};
 use json::Token;
 use mv_message::Boxed;
 use mv_tokens::{Reader, whole_of};
@@ -26,20 +26,20 @@ pub(crate) fn take_members<'a>(
     alloc: Global,
     reader: &mut Reader<'a>,
     is_inside: bool,
-) -> Option<Vec<Entry<'a>>>
-    ensures { IfSome result (λ entries. BeginWithEntries (suc (deep_in is_inside))
-        (begin_object ∷ reader.old) entries.items reader.new) }
+) -> Option<Met<'a>>
+    ensures { IfSome result (λ met. BeginWithEntries (suc (deep_in is_inside))
+        (begin_object ∷ reader.old) met reader.new) }
 {
-    let Ok(mut entries) = Vec::with_capacity(alloc, MOST_FIELDS) else {
-        return None;
-    };
+    let entries = Vec::with_capacity(alloc, MOST_FIELDS).ok()?;
+    let places = [0; NUMBERS];
+    let mut met = Met { entries, places };
     while let Some(field) = next_field(reader)? {
         let part = take_part(alloc, reader, field, is_inside)?;
-        if !adds(&mut entries, field, part) {
+        if !met.adds(field, part) {
             return None;
         }
     }
-    Some(entries)
+    Some(met)
 }
 
 /// Takes the key of a field, or the end of the object, which is none.

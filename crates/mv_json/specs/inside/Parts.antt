@@ -1,11 +1,13 @@
 -- The fields of an object as they are met, one after the other, in any order; what stands in those of a message; and the tokens of
 -- JSON that these are read from.
-use Rattle.std.specs.Prelude.{◌≡◌, ℕ, List, map, All, Contains, Some, ⊤, Bool, true, false, ◌≢◌, ◌<◌, [], ◌∷◌, length, get_or, set, IfErr, IfOk, Result, Ok}
+use Rattle.std.specs.Prelude.{◌≡◌, ℕ, List, map, All, Contains, Some, ⊤, Bool, true, false, ◌≢◌, ◌<◌, [], ◌∷◌, length, suc, get_or, set, IfErr, IfOk, Result, Ok}
 use Rattle.mv_json.specs.Words.{AllByRecursion, Data, Members, get, object, Field, IsCode, IsMarket, Items, Memory, MessageFault, PackFault, Token, array, boolean, null, option_map_or, string, view}
 use Rattle.mv_json.specs.Members.{keys_of}
 use Rattle.mv_json.specs.declared.object.Object.{Object}
 use Rattle.mv_json.specs.declared.object.Place.{Place}
+use Rattle.mv_json.specs.contracts.field.Field.{the_type}
 use Rattle.mv_json.specs.declared.part.Entry.{Entry}
+use Rattle.mv_json.specs.declared.part.Met.{Met}
 use Rattle.mv_json.specs.declared.part.Part.{Part}
 use Rattle.mv_json.specs.Meanings.{IsListOf}
 use Rattle.mv_json.specs.Fields.{field_name}
@@ -14,6 +16,7 @@ use Rattle.mv_json.specs.Limits.{most_markets, most_serials}
 use Rattle.mv_json.specs.Met.{BeginWith}
 use Rattle.mv_json.specs.Reading.{GivesOr}
 use Rattle.mv_json.specs.Values.{strings, whole}
+use denote.Enum.Declared.{tag_of}
 use Rattle.json.specs.Token as token
 use Rattle.mv_json.specs.declared.object.Object.TheVariants as objects
 use Rattle.mv_json.specs.declared.object.Place.TheVariants as places
@@ -60,17 +63,27 @@ entry field part = record { field = field; part = part }
 abbrev pub entry_name : Entry → List ℕ
 entry_name met = field_name met.field
 
+-- the number of a field
+unfoldable pub field_number : Field → ℕ
+field_number field = tag_of the_type field
+
+-- one more than the place of each field stands under its number
+unfoldable pub ArePlaced : Met → Type 0
+ArePlaced met = (k : ℕ) (d : Entry) → k < length met.entries.items
+    → get_or met.places (field_number (get_or met.entries.items k d).field) 0 ≡ suc k
+
 -- an object has these fields, and no other
-abbrev pub HasEntries : Data → List Entry → Type 0
-HasEntries found entries = HasMet entry_name (λ part met. IsPart part met.part) found entries
+abbrev pub HasEntries : Data → Met → Type 0
+HasEntries found met =
+    HasMet entry_name (λ part entry. IsPart part entry.part) found met.entries.items × ArePlaced met
 
 -- the tokens are a value that says this part, then the rest
 abbrev pub BeginWithPart : ℕ → List Token → Part → List Token → Type 0
 BeginWithPart deep ts part rest = (found : Data) × BeginWith deep ts found rest × IsPart found part
 
 -- the tokens are an object that has these fields, and no other, then the rest
-abbrev pub BeginWithEntries : ℕ → List Token → List Entry → List Token → Type 0
-BeginWithEntries deep ts entries rest = (found : Data) × BeginWith deep ts found rest × HasEntries found entries
+abbrev pub BeginWithEntries : ℕ → List Token → Met → List Token → Type 0
+BeginWithEntries deep ts met rest = (found : Data) × BeginWith deep ts found rest × HasEntries found met
 
 -- how deep what stands in an object nests at most, by whether the object stands inside another
 abbrev pub deep_in : Bool → ℕ
@@ -79,7 +92,7 @@ deep_in false = 1
 
 -- the object is that value
 abbrev pub Stands : Data → Object → Type 0
-Stands value (objects.Met entries) = HasEntries value entries.items
+Stands value (objects.Met met) = HasEntries value met
 Stands value (objects.Value said) = value ≡ view said.now
 
 -- what stands in a field is that value
@@ -97,7 +110,7 @@ IsThere field value place = (get (field_name field) value ≡ Some (there field 
 
 -- it is no object of fields that were met
 abbrev pub IsValue : Object → Type 0
-IsValue (objects.Met entries) = ⊥
+IsValue (objects.Met met) = ⊥
 IsValue (objects.Value said) = ⊤
 
 -- a reading of the object gives this, whatever value it is, and takes no memory
@@ -114,8 +127,9 @@ abbrev pub Takes : {A : Type 0} → (Data → Result A MessageFault) → Object 
 Takes reading old new result = (value : Data) → Stands value old → GivesOr result (reading value) Memory × IfOk result (λ x. Stands value new)
 
 -- that part was taken out of the field
-pub record IsTaken (old : List Entry) (field : Field) (part : Part) (new : List Entry) : Type 0 where
+pub record IsTaken (old : Met) (field : Field) (part : Part) (new : Met) : Type 0 where
   pub place : ℕ
-  pub within : place < length old
-  pub was : get_or old place (entry field part) ≡ entry field part
-  pub taken : new ≡ set old place (entry field parts.Taken)
+  pub within : place < length old.entries.items
+  pub was : get_or old.entries.items place (entry field part) ≡ entry field part
+  pub taken : new.entries.items ≡ set old.entries.items place (entry field parts.Taken)
+  pub kept : new.places ≡ old.places

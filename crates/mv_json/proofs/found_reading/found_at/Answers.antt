@@ -5,5 +5,5 @@ use Rattle.mv_json.proofs.found_reading.found_at.Goals as goal
 
 pub returns-in-Some-clause-gives : goal.returns-in-Some-clause-gives
 returns-in-Some-clause-gives c = λ value is.
-    let (found, at, says) = stands (entry fields.Found c.in-Some.part.now) (rw c.in-Met.is at is) (rw c.deref.ensures.value at c.in-Some.ensures) in
+    let (found, at, says) = stands (entry fields.Found c.in-Some.part.now) (rw c.in-Met.is at is).0 c.in-Some.ensures in
     rw at (c.found_in.ensures found says)

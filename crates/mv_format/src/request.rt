@@ -82,11 +82,7 @@ impl Request {
     }
 
     /// What the fields of a line of that kind ask, each of which is read in byte order of its name.
-    fn of_kind(
-        alloc: Global,
-        kind: LineKind,
-        object: LineObject<'_>,
-    ) -> Result<Request, LineFault>
+    fn of_kind(alloc: Global, kind: LineKind, object: LineObject<'_>) -> Result<Request, LineFault>
         ensures { MayGive (asked_by kind) object.entry result }
     {
         match kind {

@@ -1,5 +1,5 @@
 -- The replies to messages are their canonical texts, one for each line.
-use Rattle.mv_lines.proofs.Words.{Appends, AreReplies, IfSome, Line, List, None, Option, Served, Some, [], ap, lines_from, map, pieces, refl, said_texts, ℕ, ◌∷◌, ◌≡◌}
+use Rattle.mv_lines.proofs.Words.{Appends, AreReplies, IfSome, IfSome_then, Line, List, None, Option, Served, Some, [], ap, lines_from, map, pieces, refl, said_texts, ℕ, ◌∷◌, ◌≡◌}
 use Rattle.std.specs.Prelude.{⊤}
 use Rattle.mv_lines.specs.Canon.{IsCanon, canon_text, canon_of}
 
@@ -12,13 +12,7 @@ texts_are before (line ∷ lines) (text ∷ texts) after (between, is, are) =
 texts_are before lines texts after are = absurd are
 
 -- what went out for an input that was answered whole
-served_texts : (bytes : List ℕ) (after : ⊤) (old new : Option (List ℕ)) → Served IsCanon tt bytes after old new → Appends old new (canon_of bytes)
-served_texts bytes after old new served =
-    let (texts, whole, are) = served.2.replied in
-    rw (← texts_are tt (lines_from 0 (pieces bytes)) texts after are, ← whole) served.1
-
--- the same of an input that may be known
 pub served_input : (input : Option (List ℕ)) (after : ⊤) (old new : Option (List ℕ))
     → IfSome input (λ bytes. Served IsCanon tt bytes after old new) → IfSome input (λ bytes. Appends old new (canon_of bytes))
-served_input None after old new served = served
-served_input (Some bytes) after old new served = served_texts bytes after old new served
+served_input input after old new known = IfSome_then input known
+    (λ bytes (out, is, answered). let (texts, whole, are) = answered.replied in rw (← texts_are tt (lines_from 0 (pieces bytes)) texts after are, ← whole) is)

@@ -1,5 +1,5 @@
 -- What is said of lines that are only checked.
-use Rattle.mv_lines.proofs.Words.{Appends, AreReplies, Bool, IfSome, Line, List, None, Option, Served, Some, [], arith, is_ok, lines_from, map, pieces, refl, true, ℕ, ◌&&◌, ◌∷◌, ◌≡◌}
+use Rattle.mv_lines.proofs.Words.{Appends, AreReplies, Bool, IfSome, IfSome_then, Line, List, None, Option, Served, Some, [], arith, is_ok, lines_from, map, pieces, refl, true, ℕ, ◌&&◌, ◌∷◌, ◌≡◌}
 use Rattle.std.specs.List.{list_all}
 use Rattle.mv_json.specs.Messages.{read_bytes}
 use Rattle.mv_lines.specs.Checks.{IsChecked, are_messages, checked, refusals_of}
@@ -19,22 +19,12 @@ checked_lines before after (line ∷ lines) (text ∷ texts) (between, said, res
 checked_lines before after lines texts is = absurd is
 
 -- the refusals of an input went out
-refusals_written : (bytes : List ℕ) (after : Bool) (old new : Option (List ℕ)) → Served IsChecked true bytes after old new
-    → Appends old new (refusals_of bytes)
-refusals_written bytes after old new served = grind (arith, checked_texts)
-
--- and it is known whether each line is a message
-messages_known : (bytes : List ℕ) (after : Bool) (old new : Option (List ℕ)) → Served IsChecked true bytes after old new
-    → after ≡ are_messages bytes
-messages_known bytes after old new served = checked_lines true after (lines_from 0 (pieces bytes)) served.2.replied.0 served.2.replied.2
-
--- the same of an input that may be known
 pub refusals_of_input : (input : Option (List ℕ)) (after : Bool) (old new : Option (List ℕ))
     → IfSome input (λ bytes. Served IsChecked true bytes after old new) → IfSome input (λ bytes. Appends old new (refusals_of bytes))
-refusals_of_input None after old new served = served
-refusals_of_input (Some bytes) after old new served = refusals_written bytes after old new served
+refusals_of_input input after old new known = IfSome_then input known (λ bytes served. grind (arith, checked_texts))
 
+-- and it is known whether each line is a message
 pub messages_of_input : (input : Option (List ℕ)) (after : Bool) (old new : Option (List ℕ))
     → IfSome input (λ bytes. Served IsChecked true bytes after old new) → IfSome input (λ bytes. after ≡ are_messages bytes)
-messages_of_input None after old new served = served
-messages_of_input (Some bytes) after old new served = messages_known bytes after old new served
+messages_of_input input after old new known = IfSome_then input known
+    (λ bytes served. checked_lines true after (lines_from 0 (pieces bytes)) served.2.replied.0 served.2.replied.2)

@@ -5,3 +5,4 @@ pub use Rattle.mv_engine.specs.Served.{AreAnswered, Ended, EndedAt, Served, Stop
 pub use Rattle.std.proofs.Common.{Bool, Err, IfErr, IfSome, List, None, Ok, Result, Some, [], ap, arith, if◌then◌else◌, inl, inr, is_ok, map, refl, rules, subst, sym, true, ℕ, ◌&&◌, ◌∷◌, ◌≡◌}
 pub use Rattle.std.specs.Io.KnownBytes.{Appends, Consumes}
 pub use Rattle.std.specs.declared.option.Option.{Option}
+pub use Rattle.std.proofs.lemmas.Option.{IfSome_then}

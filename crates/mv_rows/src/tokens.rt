@@ -1,7 +1,8 @@
-//! Tokens: of texts that are plain, of texts that the library reads from some place on, and of texts that are no JSON.
+//! Tokens: of texts that are plain, of texts that the library reads from some place on, and of texts that are no JSON; and bytes that are
+//! a text.
 
 use json::{Scratch, Token};
-use mv_tokens::{Reader, whole_of};
+use mv_tokens::{Reader, text_of, whole_of};
 use std::alloc::Global;
 
 /// The sum of the whole numbers of a text.
@@ -135,4 +136,18 @@ fn adds_up_whole_numbers(rt: HostRuntime) {
         Some(u64::MAX)
     );
     assert_eq!(rt; sum_of("[18446744073709551616]", &mut scratch), None);
+}
+
+#[test]
+fn gives_a_text_for_utf8_alone(rt: HostRuntime) {
+    // The letter of two bytes stands within the first bytes, and behind the first sixty-four.
+    for text in [
+        "Müller",
+        "0123456789abcdef0123456789abcdef0123456789abcdef0123456789abcdefMüller",
+    ] {
+        let bytes = text.as_bytes();
+        assert_eq!(rt; text_of(bytes) == Some(text), true, "at {text}");
+        let cut = bytes.len().saturating_sub(5);
+        assert_eq!(rt; text_of(&bytes[..cut]).is_none(), true, "at {text}");
+    }
 }

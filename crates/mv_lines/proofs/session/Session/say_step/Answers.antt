@@ -15,4 +15,4 @@ pub returns : goal.returns
 returns c = λ line asks.
     let was : c.args.self.now ≡ Some c.in-Some.world = search (rules, c.in-Some.is, c.self.view_is) in
     rw was (said (IsTaken (Some _) line) _ _ (Stepped c.args.step.now c.step.result) _ _ c.append_json-2.result
-        (rw asks (c.step.result, _, c.step.ensures.allowed, refl, refl)) c.append_json-2.ensures)
+    (rw asks (c.step.result, _, c.step.ensures.allowed, refl, refl)) c.append_json-2.ensures)

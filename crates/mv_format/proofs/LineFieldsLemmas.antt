@@ -1,5 +1,5 @@
 -- What stands in the fields of a line: its tokens, and what it asks.
-use Rattle.mv_format.proofs.Words.{All, AreMet, Bor, Err, LineFault, MayAsk, Result, Step, Contains-append_left, Contains-push, Data, IsUtf8, LineField, LineKind, List, None, Ok, Option, Request, Some, Token, [], all_met, ap, arith, as_object, begin_object, begun_shorter, converted_some, end_object, field_name, get, IfSome, option_map, string, text_begins, is_some, key, keys_of, kind_at, kind_named, known_only, length, lt-ltb, message_at, names_of, nat_tests, none_met, none_unknown, number_at, one_more_met, read_line, read_request, refl, request_at, stands, text_at, tokens, true, unsigned, whole, whole_begins, ℕ, ◌++◌, ◌<◌, ◌^◌, ◌∷◌, ◌≡◌, ◌≢◌, ◌⊎◌, utf8_test, AreAll, Asks, asked_by, BeginWithFields, BeginWithPart, HasFields, IsMet, IsPart, LinePart, Meets, Message, Number, Text, met_of, shape_of}
+use Rattle.mv_format.proofs.Words.{All, AreMet, Contains-append_left, Contains-push, Data, IsUtf8, LineField, LineKind, List, None, Ok, Option, Request, Some, Token, [], all_met, ap, arith, as_object, begin_object, begun_shorter, converted_some, end_object, field_name, get, IfSome, option_map, string, text_begins, is_some, key, keys_of, kind_at, kind_named, known_only, length, lt-ltb, message_at, names_of, nat_tests, none_met, none_unknown, number_at, one_more_met, read_line, read_request, refl, request_at, stands, text_at, tokens, true, unsigned, whole, whole_begins, ℕ, ◌++◌, ◌<◌, ◌^◌, ◌∷◌, ◌≡◌, ◌≢◌, ◌⊎◌, utf8_test, AreAll, Asks, asked_by, BeginWithFields, BeginWithPart, HasFields, IsMet, IsPart, LinePart, Meets, Message, Number, Text, met_of, shape_of}
 use Rattle.mv_format.specs.declared.line_fields.LineFields.{LineFields}
 use Rattle.json.specs.Json.{value}
 use Rattle.mv_message.specs.declared.message.Message.{Message as AMessage}
@@ -7,9 +7,6 @@ use Rattle.serde_json.specs.Read.{number_of}
 use Rattle.mv_json.specs.inside.Parts.{IsOneOf}
 use Rattle.json.specs.Token as token
 use Rattle.mv_format.specs.declared.field.LineField.TheVariants as fields
-use Rattle.mv_format.specs.declared.line_fields.LineObject.TheVariants.{Met}
-use Rattle.mv_machine.specs.declared.step.Step.{Step as AStep}
-use Rattle.std.specs.Result.{result_ok}
 
 -- ---- tokens
 
@@ -103,15 +100,6 @@ request_read value met kind request (named, has, all) among is asks =
     let (members, is_object, known) = known_only field_name (λ field. field) (fields.Do ∷ (shape_of kind).0) has known_fields in
     let opened : as_object value ≡ Some members = ap as_object is_object in
     rw (opened, is, none_unknown (names_of kind) (keys_of members) known) asks
-
--- so does one of these fields, of which a step was read
-pub step_told : (met : Bor LineFields) (text : List ℕ) (kind : LineKind) (result : Result AStep LineFault) → met_of met.now fields.Do ≡ Some (Text text)
-    → kind_named text ≡ Some kind → ((field : LineField) → is_some (met_of met.now field) ≡ true → IsOneOf (fields.Do ∷ (shape_of kind).0) field)
-    → MayAsk kind (Met met) result
-    → IfSome (result_ok result) (λ step. (value : Data) → HasFields value met.now → read_request value ≡ Ok (Step step))
-step_told met text kind (Err fault) named is among asks = tt
-step_told met text kind (Ok step) named is among asks =
-    λ value has. request_read value met.now kind (Step step) has among (kind_told met.now text kind named is value has) (asks value has)
 
 -- the line asks what its tokens ask
 pub line_asks : (s : List ℕ) (request : Request) → IsUtf8 s → Asks (tokens s) request [] → read_line s ≡ Ok request

@@ -1,8 +1,7 @@
 //! What a line asks.
 
-ghost use Rattle.std.specs.Prelude.{◌≢◌};
 ghost use Rattle.mv_format.specs.Words.{GivesOr, view};
-ghost use Rattle.mv_format.specs.inside.LineFields.{MayAsk, MayGive, asked_by};
+ghost use Rattle.mv_format.specs.inside.LineFields.{MayGive, asked_by};
 ghost use Rattle.mv_format.specs.Requests.{read_request, read_line};
 
 use crate::field_reading::{gtin_of, message_of, number_of, serial_of};
@@ -82,12 +81,48 @@ impl Request {
     }
 
     /// What the fields of a line of that kind ask, each of which is read in byte order of its name.
-    fn of_kind(alloc: Global, kind: LineKind, object: LineObject<'_>) -> Result<Request, LineFault>
+    pub(crate) fn of_kind(
+        alloc: Global,
+        kind: LineKind,
+        object: LineObject<'_>,
+    ) -> Result<Request, LineFault>
         ensures { MayGive (asked_by kind) object.entry result }
     {
         match kind {
             LineKind::Open => Request::open_of(alloc, object),
-            _ => Ok(Request::Step(step_of(alloc, kind, object)?)),
+            LineKind::Submit => Ok(Request::Step(Step::Submit {
+                from: number_of(object, LineField::From)?,
+                message: message_of(alloc, object)?,
+            })),
+            LineKind::Route => Ok(Request::Step(Step::Route {
+                from: number_of(object, LineField::From)?,
+            })),
+            LineKind::Relay => Ok(Request::Step(Step::Relay {
+                from: number_of(object, LineField::From)?,
+                to: number_of(object, LineField::To)?,
+            })),
+            LineKind::Apply => Ok(Request::Step(Step::Apply {
+                from: number_of(object, LineField::From)?,
+                to: number_of(object, LineField::To)?,
+            })),
+            LineKind::Repeat => Ok(Request::Step(Step::Repeat {
+                from: number_of(object, LineField::From)?,
+                number: number_of(object, LineField::Number)?,
+                to: number_of(object, LineField::To)?,
+            })),
+            LineKind::Close => Ok(Request::Step(Step::Close {
+                from: number_of(object, LineField::From)?,
+                to: number_of(object, LineField::To)?,
+            })),
+            LineKind::Lose => Ok(Request::Step(Step::Lose {
+                from: number_of(object, LineField::From)?,
+                to: number_of(object, LineField::To)?,
+            })),
+            LineKind::Verify => Request::verify_of(object),
+            LineKind::Verdict => Ok(Request::Step(Step::Verdict {
+                party: number_of(object, LineField::Party)?,
+                q: number_of(object, LineField::Q)?,
+            })),
         }
     }
 
@@ -106,62 +141,15 @@ impl Request {
             wire: number_of(object, LineField::Wire)?,
         })
     }
-}
 
-/// The step that the fields of a line of that kind ask, each of which is read in byte order of its name.
-pub(crate) fn step_of(
-    alloc: Global,
-    kind: LineKind,
-    object: LineObject<'_>,
-) -> Result<Step, LineFault>
-    requires step { kind ≢ LineKind.Open }
-    ensures { MayAsk kind object.entry result }
-{
-    match kind {
-        LineKind::Open => unreachable!(),
-        LineKind::Submit => Ok(Step::Submit {
-            from: number_of(object, LineField::From)?,
-            message: message_of(alloc, object)?,
-        }),
-        LineKind::Route => Ok(Step::Route {
-            from: number_of(object, LineField::From)?,
-        }),
-        LineKind::Relay => Ok(Step::Relay {
-            from: number_of(object, LineField::From)?,
-            to: number_of(object, LineField::To)?,
-        }),
-        LineKind::Apply => Ok(Step::Apply {
-            from: number_of(object, LineField::From)?,
-            to: number_of(object, LineField::To)?,
-        }),
-        LineKind::Repeat => Ok(Step::Repeat {
-            from: number_of(object, LineField::From)?,
-            number: number_of(object, LineField::Number)?,
-            to: number_of(object, LineField::To)?,
-        }),
-        LineKind::Close => Ok(Step::Close {
-            from: number_of(object, LineField::From)?,
-            to: number_of(object, LineField::To)?,
-        }),
-        LineKind::Lose => Ok(Step::Lose {
-            from: number_of(object, LineField::From)?,
-            to: number_of(object, LineField::To)?,
-        }),
-        LineKind::Verify => verify_of(object),
-        LineKind::Verdict => Ok(Step::Verdict {
-            party: number_of(object, LineField::Party)?,
-            q: number_of(object, LineField::Q)?,
-        }),
+    /// The verifying of a pack that the fields of a line ask.
+    fn verify_of(object: LineObject<'_>) -> Result<Request, LineFault>
+        ensures { MayGive (asked_by LineKind.Verify) object.entry result }
+    {
+        let gtin = gtin_of(object, LineField::Gtin)?;
+        let party = number_of(object, LineField::Party)?;
+        let serial = serial_of(object, LineField::Serial)?;
+        let key = PackKey { gtin, serial };
+        Ok(Request::Step(Step::Verify { party, key }))
     }
-}
-
-/// The verifying of a pack that the fields of a line ask.
-fn verify_of(object: LineObject<'_>) -> Result<Step, LineFault>
-    ensures { MayAsk LineKind.Verify object.entry result }
-{
-    let gtin = gtin_of(object, LineField::Gtin)?;
-    let party = number_of(object, LineField::Party)?;
-    let serial = serial_of(object, LineField::Serial)?;
-    let key = PackKey { gtin, serial };
-    Ok(Step::Verify { party, key })
 }

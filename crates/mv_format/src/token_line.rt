@@ -8,9 +8,8 @@ ghost use Rattle.mv_format.specs.declared.field.LineField.{LineField as AField};
 ghost use Rattle.mv_format.specs.inside.LineFields.LinePart.{Message as InMessage, Number};
 ghost use Rattle.mv_format.specs.Requests.{read_line, read_request};
 
-use crate::kind::{LineKind, kind_called};
+use crate::kind::kind_called;
 use crate::line_fields::{LineFields, LineObject, puts};
-use crate::request::step_of;
 use crate::{LineField, Request};
 use json::{Scratch, Token};
 use mv_json::take_message;
@@ -29,12 +28,11 @@ pub fn read_step(alloc: Global, scratch: &mut Scratch, line: &[u8]) -> Option<St
         return None;
     }
     let mut reader = Reader::new(text, scratch);
-    // It is handed on as it comes: a step that is taken out and put in again is copied twice.
-    let step = take_step(alloc, &mut reader);
+    let step = take_step(alloc, &mut reader)?;
     if !reader.is_done() {
         return None;
     }
-    step
+    Some(step)
 }
 
 /// Takes the step that the object asks which is next.
@@ -56,10 +54,13 @@ fn step_met(alloc: Global, met: &LineFields<'_>) -> Option<Step>
     ensures { IfSome result (λ step. (value : Data) → HasFields value met.now → read_request value ≡ Ok (Request.Step step)) }
 {
     let kind = kind_called(met.text(LineField::Do)?)?;
-    if kind == LineKind::Open || !met.are_among(kind.fields()) {
+    if !met.are_among(kind.fields()) {
         return None;
     }
-    step_of(alloc, kind, LineObject::Met(met)).ok()
+    match Request::of_kind(alloc, kind, LineObject::Met(met)) {
+        Ok(Request::Step(step)) => Some(step),
+        _ => None,
+    }
 }
 
 /// Takes the rest of an object, behind its opening brace, with its fields in any order, each once, and says whether it could.

@@ -1,7 +1,7 @@
 -- What stands in the fields of a line: its tokens, and what it asks.
-use Rattle.mv_format.proofs.Words.{All, AreMet, Contains-append_left, Contains-push, Data, IsUtf8, LineField, LineKind, List, None, Ok, Option, Request, Some, Token, [], all_met, ap, arith, as_object, begin_object, begun_shorter, converted_some, end_object, field_name, get, IfSome, option_map, string, text_begins, is_some, key, keys_of, kind_at, kind_named, known_only, length, lt-ltb, message_at, names_of, nat_tests, none_met, none_unknown, number_at, one_more_met, read_line, read_request, refl, request_at, stands, text_at, tokens, true, unsigned, whole, whole_begins, ℕ, ◌++◌, ◌<◌, ◌^◌, ◌∷◌, ◌≡◌, ◌≢◌, ◌⊎◌, utf8_test, AreAll, Asks, asked_by, BeginWithFields, BeginWithPart, HasFields, IsMet, IsPart, LinePart, Meets, Message, Number, Text, met_of, shape_of}
+use Rattle.mv_format.proofs.Words.{All, AreMet, Contains-append_left, Contains-push, Data, IsUtf8, LineField, LineKind, List, None, Ok, Option, Request, Some, Token, [], all_met, ap, arith, as_object, begin_object, begun_shorter, converted_some, end_object, field_name, get, IfSome, option_map, string, text_begins, is_some, key, keys_of, kind_at, kind_named, known_only, length, lt-ltb, message_at, names_of, nat_tests, none_met, none_unknown, number_at, one_more_met, read_at, read_line, read_request, refl, request_at, stands, text_at, tokens, true, unsigned, whole, whole_begins, ℕ, ◌++◌, ◌<◌, ◌^◌, ◌∷◌, ◌≡◌, ◌≢◌, ◌⊎◌, utf8_test, AreAll, Asks, asked_by, BeginWithFields, BeginWithPart, HasFields, IsMet, IsPart, LinePart, Meets, Message, Number, Text, met_of, shape_of}
+use Rattle.mv_format.specs.Words.{read_code, read_gtin}
 use Rattle.mv_format.specs.declared.line_fields.LineFields.{LineFields}
-use Rattle.json.specs.Json.{value}
 use Rattle.mv_message.specs.declared.message.Message.{Message as AMessage}
 use Rattle.serde_json.specs.Read.{number_of}
 use Rattle.mv_json.specs.inside.Parts.{IsOneOf}
@@ -67,15 +67,26 @@ there_is value met field part is (named, has, all) =
     (there, at, grind (arith, so))
 
 -- so a text is what its field is read as
-pub text_told : (met : LineFields) (field : LineField) (text : List ℕ) → met_of met field ≡ Some (Text text) → (value : Data) → HasFields value met
+text_told : (met : LineFields) (field : LineField) (text : List ℕ) → met_of met field ≡ Some (Text text) → (value : Data) → HasFields value met
     → text_at field value ≡ Ok text
 text_told met field text is value has = let (there, at, so) = there_is value met field (Text text) is has in rw (at, so)
 
 -- and its kind, where it is that of `do`
-pub kind_told : (met : LineFields) (text : List ℕ) (kind : LineKind) → met_of met fields.Do ≡ Some (Text text) → kind_named text ≡ Some kind
+kind_told : (met : LineFields) (text : List ℕ) (kind : LineKind) → met_of met fields.Do ≡ Some (Text text) → kind_named text ≡ Some kind
     → (value : Data) → HasFields value met → kind_at value ≡ Ok kind
 unfolding kind_at
 kind_told met text kind is named value has = rw (text_told met fields.Do text is value has, named)
+
+-- or what is read of it
+pub gtin_told : (met : LineFields) (text gtin : List ℕ) → met_of met fields.Gtin ≡ Some (Text text) → read_gtin text ≡ Ok gtin → (value : Data)
+    → HasFields value met → read_at read_gtin fields.Gtin value ≡ Ok gtin
+unfolding read_at
+gtin_told met text gtin is reads value has = rw (text_told met fields.Gtin text is value has, reads)
+
+pub serial_told : (met : LineFields) (text serial : List ℕ) → met_of met fields.Serial ≡ Some (Text text) → read_code text ≡ Ok serial → (value : Data)
+    → HasFields value met → read_at read_code fields.Serial value ≡ Ok serial
+unfolding read_at
+serial_told met text serial is reads value has = rw (text_told met fields.Serial text is value has, reads)
 
 -- a number
 pub number_told : (met : LineFields) (field : LineField) (n : ℕ) → met_of met field ≡ Some (Number n) → (value : Data) → HasFields value met
@@ -91,15 +102,15 @@ message_told met message is value has = let (there, at, so) = there_is value met
 -- ---- what a line asks
 
 -- an object that has no other field than those of its kind asks what they do
-pub request_read : (value : Data) (met : LineFields) (kind : LineKind) (request : Request) → HasFields value met
-    → ((field : LineField) → is_some (met_of met field) ≡ true → IsOneOf (fields.Do ∷ (shape_of kind).0) field) → kind_at value ≡ Ok kind
-    → asked_by kind value ≡ Ok request → read_request value ≡ Ok request
+pub request_read : (met : LineFields) (text : List ℕ) (kind : LineKind) (request : Request) → met_of met fields.Do ≡ Some (Text text) → kind_named text ≡ Some kind
+    → ((field : LineField) → is_some (met_of met field) ≡ true → IsOneOf (fields.Do ∷ (shape_of kind).0) field)
+    → (value : Data) → HasFields value met → asked_by kind value ≡ Ok request → read_request value ≡ Ok request
 unfolding read_request request_at
-request_read value met kind request (named, has, all) among is asks =
+request_read met text kind request asked is among value (named, has, all) asks =
     let known_fields : All (IsOneOf (fields.Do ∷ (shape_of kind).0)) named = λ k d h. let (there, at, (was, stood, so)) = has.says k d h in among _ (rw stood refl) in
     let (members, is_object, known) = known_only field_name (λ field. field) (fields.Do ∷ (shape_of kind).0) has known_fields in
     let opened : as_object value ≡ Some members = ap as_object is_object in
-    rw (opened, is, none_unknown (names_of kind) (keys_of members) known) asks
+    rw (opened, kind_told met text kind asked is value (named, has, all), none_unknown (names_of kind) (keys_of members) known) asks
 
 -- the line asks what its tokens ask
 pub line_asks : (s : List ℕ) (request : Request) → IsUtf8 s → Asks (tokens s) request [] → read_line s ≡ Ok request

@@ -1,11 +1,9 @@
 //! Reads the fields of a line, one at a time, each with its own faults in their order.
 
-ghost use Rattle.std.specs.Prelude.{◌≡◌, ◌≢◌, option_and_then, MatchResult, Ok, Err};
-ghost use Rattle.mv_format.specs.Words.{Data, GivesOr, read_code, read_gtin, view, whole_number};
-ghost use Rattle.mv_format.specs.inside.LineFields.{MayGive, Stands};
+ghost use Rattle.std.specs.Prelude.{◌≡◌, option_and_then, MatchResult, Ok, Err};
+ghost use Rattle.mv_format.specs.Words.{GivesOr, read_code, read_gtin, view, whole_number};
 ghost use Rattle.mv_format.specs.Reading.{member_at, text_at, read_at, of_32_bits, number_at, message_at};
 
-use crate::line_fields::LineObject;
 use crate::{LineFault, LineField};
 use mv_json::MessageFault;
 use mv_json::members::Named;
@@ -24,47 +22,38 @@ pub(crate) fn member_of(value: &Value, field: LineField) -> Result<&Value, LineF
 }
 
 /// The text of a field: M3, M5.
-#[tactic(auto, using(crate::proofs::LineFieldsLemmas::text_told))]
-pub(crate) fn text_of<'a>(object: LineObject<'a>, field: LineField) -> Result<&'a str, LineFault>
-    ensures { (value : Data) → Stands value object.entry → MatchResult result
-        (λ text. text_at field value ≡ Ok text.now)
-        (λ fault. fault ≢ LineFault.Memory → text_at field value ≡ Err fault) }
+pub(crate) fn text_of(value: &Value, field: LineField) -> Result<&str, LineFault>
+    ensures { MatchResult result
+        (λ text. text_at field (view value.now) ≡ Ok text.now)
+        (λ fault. text_at field (view value.now) ≡ Err fault) }
 {
-    match object {
-        LineObject::Met(met) => met.text(field).ok_or(LineFault::Memory),
-        LineObject::Value(value) => member_of(value, field)?
-            .as_str()
-            .ok_or(LineFault::Kind(field)),
-    }
+    member_of(value, field)?
+        .as_str()
+        .ok_or(LineFault::Kind(field))
 }
 
 /// The product code of a field: M3, M5, M6.
 #[tactic(auto, unfolding(crate::specs::Reading::read_at))]
-pub(crate) fn gtin_of(object: LineObject<'_>, field: LineField) -> Result<Gtin, LineFault>
-    ensures { MayGive (read_at read_gtin field) object.entry result }
+pub(crate) fn gtin_of(value: &Value, field: LineField) -> Result<Gtin, LineFault>
+    ensures { GivesOr result (read_at read_gtin field (view value.now)) LineFault.Memory }
 {
-    Gtin::read(text_of(object, field)?).map_err(|fault| LineFault::Pack(field, fault))
+    Gtin::read(text_of(value, field)?).map_err(|fault| LineFault::Pack(field, fault))
 }
 
 /// The serial number of a field: M3, M5, M6.
 #[tactic(auto, unfolding(crate::specs::Reading::read_at))]
-pub(crate) fn serial_of(object: LineObject<'_>, field: LineField) -> Result<Serial, LineFault>
-    ensures { MayGive (read_at read_code field) object.entry result }
+pub(crate) fn serial_of(value: &Value, field: LineField) -> Result<Serial, LineFault>
+    ensures { GivesOr result (read_at read_code field (view value.now)) LineFault.Memory }
 {
-    Serial::read(text_of(object, field)?).map_err(|fault| LineFault::Pack(field, fault))
+    Serial::read(text_of(value, field)?).map_err(|fault| LineFault::Pack(field, fault))
 }
 
 /// The whole number of a field, up to 4,294,967,295: M3, M5.
-#[tactic(auto, using(crate::proofs::LineFieldsLemmas::number_told), unfolding(crate::specs::Reading::number_at))]
-pub(crate) fn number_of(object: LineObject<'_>, field: LineField) -> Result<u32, LineFault>
-    ensures { MayGive (number_at field) object.entry result }
+#[tactic(auto, unfolding(crate::specs::Reading::number_at))]
+pub(crate) fn number_of(value: &Value, field: LineField) -> Result<u32, LineFault>
+    ensures { GivesOr result (number_at field (view value.now)) LineFault.Memory }
 {
-    match object {
-        LineObject::Met(met) => met.number(field).ok_or(LineFault::Memory),
-        LineObject::Value(value) => {
-            whole_number(member_of(value, field)?).ok_or(LineFault::Kind(field))
-        }
-    }
+    whole_number(member_of(value, field)?).ok_or(LineFault::Kind(field))
 }
 
 /// The whole number of 32 bits that a value is.
@@ -75,20 +64,10 @@ fn whole_number(value: &Value) -> Option<u32>
 }
 
 /// The message of a line: M3, then the message's own faults.
-#[tactic(auto, using(crate::proofs::LineFieldsLemmas::message_told))]
-pub(crate) fn message_of(
-    alloc: Global,
-    object: LineObject<'_>,
-) -> Result<Shared<Message>, LineFault>
-    ensures { MayGive message_at object.entry result }
+pub(crate) fn message_of(alloc: Global, value: &Value) -> Result<Shared<Message>, LineFault>
+    ensures { GivesOr result (message_at (view value.now)) LineFault.Memory }
 {
-    match object {
-        LineObject::Met(met) => match &met.message {
-            Some(message) => Ok(message.share()?),
-            None => Err(LineFault::Memory),
-        },
-        LineObject::Value(value) => Ok(Shared::new(alloc, message_in(alloc, value)?)?),
-    }
+    Ok(Shared::new(alloc, message_in(alloc, value)?)?)
 }
 
 /// The message of a line that is a value.

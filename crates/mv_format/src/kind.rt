@@ -2,11 +2,11 @@
 
 ghost use Rattle.std.specs.Prelude.{◌≡◌, ◌∷◌};
 ghost use Rattle.mv_format.specs.Kinds.{kind_named, kind_at, shape_of};
-ghost use Rattle.mv_format.specs.inside.LineFields.{MayGive};
+ghost use Rattle.mv_format.specs.Words.{GivesOr, view};
 
 use crate::field_reading::text_of;
-use crate::line_fields::LineObject;
 use crate::{LineFault, LineField};
+use serde_json::Value;
 
 /// What a line asks, which its field `do` names.
 #[derive(Clone, Copy, PartialEq, Eq)]
@@ -72,8 +72,8 @@ pub(crate) fn kind_called(name: &str) -> Option<LineKind>
 
 /// The kind of an object: M3, M5.
 #[tactic(auto, unfolding(crate::specs::Kinds::kind_at))]
-pub(crate) fn kind_of(object: LineObject<'_>) -> Result<LineKind, LineFault>
-    ensures { MayGive kind_at object.entry result }
+pub(crate) fn kind_of(value: &Value) -> Result<LineKind, LineFault>
+    ensures { GivesOr result (kind_at (view value.now)) LineFault.Memory }
 {
-    kind_called(text_of(object, LineField::Do)?).ok_or(LineFault::Kind(LineField::Do))
+    kind_called(text_of(value, LineField::Do)?).ok_or(LineFault::Kind(LineField::Do))
 }

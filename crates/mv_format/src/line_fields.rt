@@ -1,14 +1,12 @@
-//! The fields of a line as they are met, in any order, and what stands in each; and the object that they are of.
+//! The fields of a line as they are met, in any order, and what stands in each.
 
-ghost use Rattle.std.specs.Prelude.{◌≡◌, IfSome, IsTrue, None, Some, is_some, true};
+ghost use Rattle.std.specs.Prelude.{◌≡◌, IsTrue, None, is_some, true};
 ghost use Rattle.mv_json.specs.inside.Parts.{IsOneOf};
 ghost use Rattle.mv_format.specs.declared.field.LineField.{LineField as AField};
 ghost use Rattle.mv_format.specs.inside.LineFields.{met_of};
-ghost use Rattle.mv_format.specs.inside.LineFields.LinePart.{Number, Text};
 
 use crate::LineField;
 use mv_message::{Message, Shared};
-use serde_json::Value;
 
 /// What stands in the fields that were met of a line that asks a step.
 #[derive(Default, Drop)]
@@ -33,33 +31,7 @@ pub(crate) struct LineFields<'a> {
     pub(crate) to: Option<u32>,
 }
 
-impl<'a> LineFields<'a> {
-    /// The text that was met in a field.
-    pub(crate) fn text(&self, field: LineField) -> Option<&'a str>
-        ensures { IfSome result (λ text. met_of self.now field ≡ Some (Text text.now)) }
-    {
-        match field {
-            LineField::Do => self.asked,
-            LineField::Gtin => self.gtin,
-            LineField::Serial => self.serial,
-            _ => None,
-        }
-    }
-
-    /// The number that was met in a field.
-    pub(crate) fn number(&self, field: LineField) -> Option<u32>
-        ensures { IfSome result (λ number. met_of self.now field ≡ Some (Number number)) }
-    {
-        match field {
-            LineField::From => self.from,
-            LineField::Number => self.number,
-            LineField::Party => self.party,
-            LineField::Q => self.q,
-            LineField::To => self.to,
-            _ => None,
-        }
-    }
-
+impl LineFields<'_> {
     /// Whether each field that was met is one of these.
     pub(crate) fn are_among(&self, fields: &[LineField]) -> bool
         ensures { IsTrue result → (field : AField) → is_some (met_of self.now field) ≡ true → IsOneOf fields.now field }
@@ -74,15 +46,6 @@ impl<'a> LineFields<'a> {
             && is_among(&self.serial, LineField::Serial, fields)
             && is_among(&self.to, LineField::To, fields)
     }
-}
-
-/// The object that a line is.
-#[derive(Clone, Copy)]
-pub(crate) enum LineObject<'a> {
-    /// The fields that were met, and no other. What they do not tell is answered by `LineFault::Memory`.
-    Met(&'a LineFields<'a>),
-    /// A value.
-    Value(&'a Value),
 }
 
 /// Puts a value into a place where none is yet, and says whether it could.

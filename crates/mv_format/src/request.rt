@@ -1,12 +1,11 @@
 //! What a line asks.
 
 ghost use Rattle.mv_format.specs.Words.{GivesOr, view};
-ghost use Rattle.mv_format.specs.inside.LineFields.{MayGive, asked_by};
+ghost use Rattle.mv_format.specs.inside.LineFields.{asked_by};
 ghost use Rattle.mv_format.specs.Requests.{read_request, read_line};
 
 use crate::field_reading::{gtin_of, message_of, number_of, serial_of};
 use crate::kind::{LineKind, kind_of};
-use crate::line_fields::LineObject;
 use crate::market_lists::market_lists_of;
 use crate::token_line::read_step;
 use crate::{LineFault, LineField, MarketLists};
@@ -72,83 +71,75 @@ impl Request {
         ensures { GivesOr result (read_request (view value.now)) LineFault.Memory }
     {
         let members = value.as_object().ok_or(LineFault::NotObject)?;
-        let object = LineObject::Value(value);
-        let kind = kind_of(object)?;
+        let kind = kind_of(value)?;
         if let Some(key) = first_unknown(members, kind.fields()) {
             return Err(LineFault::Unknown(Text::new(String::from_str(alloc, key)?)));
         }
-        Request::of_kind(alloc, kind, object)
+        Request::of_kind(alloc, kind, value)
     }
 
     /// What the fields of a line of that kind ask, each of which is read in byte order of its name.
-    pub(crate) fn of_kind(
-        alloc: Global,
-        kind: LineKind,
-        object: LineObject<'_>,
-    ) -> Result<Request, LineFault>
-        ensures { MayGive (asked_by kind) object.entry result }
+    fn of_kind(alloc: Global, kind: LineKind, value: &Value) -> Result<Request, LineFault>
+        ensures { GivesOr result (asked_by kind (view value.now)) LineFault.Memory }
     {
         match kind {
-            LineKind::Open => Request::open_of(alloc, object),
+            LineKind::Open => Request::open_of(alloc, value),
             LineKind::Submit => Ok(Request::Step(Step::Submit {
-                from: number_of(object, LineField::From)?,
-                message: message_of(alloc, object)?,
+                from: number_of(value, LineField::From)?,
+                message: message_of(alloc, value)?,
             })),
             LineKind::Route => Ok(Request::Step(Step::Route {
-                from: number_of(object, LineField::From)?,
+                from: number_of(value, LineField::From)?,
             })),
             LineKind::Relay => Ok(Request::Step(Step::Relay {
-                from: number_of(object, LineField::From)?,
-                to: number_of(object, LineField::To)?,
+                from: number_of(value, LineField::From)?,
+                to: number_of(value, LineField::To)?,
             })),
             LineKind::Apply => Ok(Request::Step(Step::Apply {
-                from: number_of(object, LineField::From)?,
-                to: number_of(object, LineField::To)?,
+                from: number_of(value, LineField::From)?,
+                to: number_of(value, LineField::To)?,
             })),
             LineKind::Repeat => Ok(Request::Step(Step::Repeat {
-                from: number_of(object, LineField::From)?,
-                number: number_of(object, LineField::Number)?,
-                to: number_of(object, LineField::To)?,
+                from: number_of(value, LineField::From)?,
+                number: number_of(value, LineField::Number)?,
+                to: number_of(value, LineField::To)?,
             })),
             LineKind::Close => Ok(Request::Step(Step::Close {
-                from: number_of(object, LineField::From)?,
-                to: number_of(object, LineField::To)?,
+                from: number_of(value, LineField::From)?,
+                to: number_of(value, LineField::To)?,
             })),
             LineKind::Lose => Ok(Request::Step(Step::Lose {
-                from: number_of(object, LineField::From)?,
-                to: number_of(object, LineField::To)?,
+                from: number_of(value, LineField::From)?,
+                to: number_of(value, LineField::To)?,
             })),
-            LineKind::Verify => Request::verify_of(object),
+            LineKind::Verify => Request::verify_of(value),
             LineKind::Verdict => Ok(Request::Step(Step::Verdict {
-                party: number_of(object, LineField::Party)?,
-                q: number_of(object, LineField::Q)?,
+                party: number_of(value, LineField::Party)?,
+                q: number_of(value, LineField::Q)?,
             })),
         }
     }
 
-    /// The opening that the fields of a line ask. It is read of a value alone.
-    fn open_of(alloc: Global, object: LineObject<'_>) -> Result<Request, LineFault>
-        ensures { MayGive (asked_by LineKind.Open) object.entry result }
+    /// The opening that the fields of a line ask.
+    fn open_of(alloc: Global, value: &Value) -> Result<Request, LineFault>
+        ensures { GivesOr result (asked_by LineKind.Open (view value.now)) LineFault.Memory }
     {
-        let LineObject::Value(value) = object else {
-            return Err(LineFault::Memory);
-        };
         Ok(Request::Open {
             parties: market_lists_of(alloc, value, LineField::Parties)?,
-            submissions: number_of(object, LineField::Submissions)?,
-            uplink: number_of(object, LineField::Uplink)?,
-            window: number_of(object, LineField::Window)?,
-            wire: number_of(object, LineField::Wire)?,
+            submissions: number_of(value, LineField::Submissions)?,
+            uplink: number_of(value, LineField::Uplink)?,
+            window: number_of(value, LineField::Window)?,
+            wire: number_of(value, LineField::Wire)?,
         })
     }
 
     /// The verifying of a pack that the fields of a line ask.
-    fn verify_of(object: LineObject<'_>) -> Result<Request, LineFault>
-        ensures { MayGive (asked_by LineKind.Verify) object.entry result }
+    fn verify_of(value: &Value) -> Result<Request, LineFault>
+        ensures { GivesOr result (asked_by LineKind.Verify (view value.now)) LineFault.Memory }
     {
-        let gtin = gtin_of(object, LineField::Gtin)?;
-        let party = number_of(object, LineField::Party)?;
-        let serial = serial_of(object, LineField::Serial)?;
+        let gtin = gtin_of(value, LineField::Gtin)?;
+        let party = number_of(value, LineField::Party)?;
+        let serial = serial_of(value, LineField::Serial)?;
         let key = PackKey { gtin, serial };
         Ok(Request::Step(Step::Verify { party, key }))
     }

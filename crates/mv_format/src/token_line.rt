@@ -1,20 +1,23 @@
 //! Reads lines by their tokens, with no value in between, their keys in any order.
 
-ghost use Rattle.std.specs.Prelude.{◌≡◌, ◌∷◌, Ok, IfSome, IsTrue, MatchOption, None};
-ghost use Rattle.mv_format.specs.Words.{Data, begin_object, end_object, key};
+ghost use Rattle.std.specs.Prelude.{◌≡◌, ◌∷◌, ℕ, List, Ok, IfSome, IsTrue, MatchOption, None};
+ghost use Rattle.mv_format.specs.Words.{Data, begin_object, end_object, key, read_code, read_gtin};
+ghost use Rattle.mv_pack.specs.Keys.{pack_key};
 ghost use Rattle.mv_format.specs.Fields.{field_name};
 ghost use Rattle.mv_format.specs.inside.LineFields.{Asks, BeginWithFields, BeginWithPart, HasFields, LinePart, Meets, met_of};
 ghost use Rattle.mv_format.specs.declared.field.LineField.{LineField as AField};
 ghost use Rattle.mv_format.specs.inside.LineFields.LinePart.{Message as InMessage, Number};
 ghost use Rattle.mv_format.specs.Requests.{read_line, read_request};
+ghost use Rattle.mv_format.specs.declared.request.Request.{Request};
 
-use crate::kind::kind_called;
-use crate::line_fields::{LineFields, LineObject, puts};
-use crate::{LineField, Request};
+use crate::LineField;
+use crate::kind::{LineKind, kind_called};
+use crate::line_fields::{LineFields, puts};
 use json::{Scratch, Token};
 use mv_json::take_message;
 use mv_machine::Step;
-use mv_message::{Message, Shared};
+use mv_message::{Message, Party, Shared};
+use mv_pack::{Gtin, PackKey, Serial};
 use mv_tokens::{Reader, text_of};
 use std::alloc::Global;
 
@@ -46,21 +49,67 @@ fn take_step(alloc: Global, reader: &mut Reader<'_>) -> Option<Step>
     if !takes_members(alloc, reader, &mut met) {
         return None;
     }
-    step_met(alloc, &met)
+    step_met(&mut met)
 }
 
-/// The step that a line of these fields asks, where each is one of its kind.
-fn step_met(alloc: Global, met: &LineFields<'_>) -> Option<Step>
-    ensures { IfSome result (λ step. (value : Data) → HasFields value met.now → read_request value ≡ Ok (Request.Step step)) }
+/// The step that the fields of a line ask, where they are those of its kind. The message is taken out of them.
+#[inline(always)]
+fn step_met(met: &mut LineFields<'_>) -> Option<Step>
+    ensures { IfSome result (λ step. (value : Data) → HasFields value met.old → read_request value ≡ Ok (Request.Step step)) }
 {
-    let kind = kind_called(met.text(LineField::Do)?)?;
+    let kind = kind_called(met.asked?)?;
     if !met.are_among(kind.fields()) {
         return None;
     }
-    match Request::of_kind(alloc, kind, LineObject::Met(met)) {
-        Ok(Request::Step(step)) => Some(step),
-        _ => None,
+    match kind {
+        LineKind::Open => None,
+        LineKind::Submit => Some(Step::Submit {
+            from: met.from?,
+            message: met.message.take()?,
+        }),
+        LineKind::Route => Some(Step::Route { from: met.from? }),
+        LineKind::Relay => Some(Step::Relay {
+            from: met.from?,
+            to: met.to?,
+        }),
+        LineKind::Apply => Some(Step::Apply {
+            from: met.from?,
+            to: met.to?,
+        }),
+        LineKind::Repeat => Some(Step::Repeat {
+            from: met.from?,
+            number: met.number?,
+            to: met.to?,
+        }),
+        LineKind::Close => Some(Step::Close {
+            from: met.from?,
+            to: met.to?,
+        }),
+        LineKind::Lose => Some(Step::Lose {
+            from: met.from?,
+            to: met.to?,
+        }),
+        LineKind::Verify => verify_of(met.gtin?, met.party?, met.serial?),
+        LineKind::Verdict => Some(Step::Verdict {
+            party: met.party?,
+            q: met.q?,
+        }),
     }
+}
+
+/// The step that verifies a pack. It stands for itself, so that no other step is put together with its codes.
+#[inline(never)]
+fn verify_of(gtin: &str, party: Party, serial: &str) -> Option<Step>
+    ensures { IfSome result (λ step. (gtin_read : List ℕ) × (serial_read : List ℕ)
+        × (read_gtin gtin.now ≡ Ok gtin_read) × (read_code serial.now ≡ Ok serial_read)
+        × (step ≡ Step.Verify party (pack_key gtin_read serial_read))) }
+{
+    let gtin = Gtin::read(gtin).ok()?;
+    let serial = Serial::read(serial).ok()?;
+    Some(Step::Verify {
+        party,
+        key: PackKey { gtin, serial },
+    })
 }
 
 /// Takes the rest of an object, behind its opening brace, with its fields in any order, each once, and says whether it could.

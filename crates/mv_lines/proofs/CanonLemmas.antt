@@ -1,5 +1,5 @@
 -- The replies to messages are their canonical texts, one for each line.
-use Rattle.mv_lines.proofs.Words.{Appends, AreReplies, IfSome, IfSome_then, Line, List, None, Option, Served, Some, [], ap, lines_from, map, pieces, refl, said_texts, ℕ, ◌∷◌, ◌≡◌}
+use Rattle.mv_lines.proofs.Words.{Appends, AreReplies, IfSome, IfSome_then, Line, List, Option, Served, [], ap, lines_from, map, pieces, refl, said_texts, ℕ, ◌∷◌, ◌≡◌}
 use Rattle.std.specs.Prelude.{⊤}
 use Rattle.mv_lines.specs.Canon.{IsCanon, canon_text, canon_of}
 

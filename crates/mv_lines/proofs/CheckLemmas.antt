@@ -1,5 +1,5 @@
 -- What is said of lines that are only checked.
-use Rattle.mv_lines.proofs.Words.{Appends, AreReplies, Bool, IfSome, IfSome_then, Line, List, None, Option, Served, Some, [], arith, is_ok, lines_from, map, pieces, refl, true, ℕ, ◌&&◌, ◌∷◌, ◌≡◌}
+use Rattle.mv_lines.proofs.Words.{Appends, AreReplies, Bool, IfSome, IfSome_then, Line, List, Option, Served, [], arith, is_ok, lines_from, map, pieces, refl, true, ℕ, ◌&&◌, ◌∷◌, ◌≡◌}
 use Rattle.std.specs.List.{list_all}
 use Rattle.mv_json.specs.Messages.{read_bytes}
 use Rattle.mv_lines.specs.Checks.{IsChecked, are_messages, checked, refusals_of}

@@ -1,6 +1,6 @@
 //! What comes of the lines of a run of steps.
 
-ghost use Rattle.std.specs.Prelude.{◌≡◌, ◌≢◌, ℕ, List, None, Ok, IfOk, IfErr, MatchResult};
+ghost use Rattle.std.specs.Prelude.{◌≡◌, ◌≢◌, None, Ok, IfOk, IfErr, IfSome, MatchResult};
 ghost use Rattle.std.specs.Mem.{manually_drop_value};
 ghost use Rattle.std.specs.Option.{option_copied};
 ghost use Rattle.mv_hub.specs.Parties.{parties_of};
@@ -45,10 +45,8 @@ impl Answering for Session {
     ghost replies = { IsReply };
 
     fn answer(&mut self, _number: u32, line: &[u8], out: &mut Vec<u8>) -> Result<bool, AllocError> {
-        match read_step(self.alloc, &mut self.scratch, line) {
-            Some(step) => self.say_step(&step, out)?,
-            None => self.say_read(line, out)?,
-        }
+        let read = read_step(self.alloc, &mut self.scratch, line);
+        self.say(&read, line, out)?;
         Ok(true)
     }
 }
@@ -116,12 +114,15 @@ impl Session {
         }
     }
 
-    /// Makes a step, and writes its reply at once: what is made of a step and handed on is copied.
+    /// Does what a line asks, and writes the reply. A step that was read of it is made where it stands: what is handed on is copied.
     #[inline(always)]
-    fn say_step(&mut self, step: &Step, out: &mut Vec<u8>) -> Result<(), AllocError>
-        ensures { (line : List ℕ) → read_line line ≡ Ok (Request.Step step.now)
-            → IsSaid (IsTaken self.old line) self.old out.old.items result out.new.items self.new }
+    fn say(&mut self, read: &Option<Step>, line: &[u8], out: &mut Vec<u8>) -> Result<(), AllocError>
+        requires read { IfSome read.now (λ step. read_line line.now ≡ Ok (Request.Step step)) }
+        ensures { IsSaid (IsTaken self.old line.now) self.old out.old.items result out.new.items self.new }
     {
+        let Some(step) = read else {
+            return self.say_read(line, out);
+        };
         let Some(world) = &mut self.world else {
             return append_json(self.alloc, out, &Answered::NotTaken(OpenFault::NotOpen));
         };

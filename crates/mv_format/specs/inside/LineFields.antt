@@ -1,18 +1,16 @@
 -- What stands in the fields of a line, as they are met in its object; the tokens of JSON that it is read from; and what reading lists
 -- of markets gives, one member after the other.
 use Rattle.std.specs.Prelude.{ℕ, if◌then◌else◌, is_some, List, [], ◌∷◌, ◌++◌, Contains, Option, Some, None, option_map, Result, Ok, Err, ok_or, true, ◌≡◌, ◌⊎◌, ◌<◌, ◌^◌}
-use Rattle.mv_format.specs.Words.{Data, Items, Kind, LineFault, LineField, LineKind, Pack, as_array, as_list, as_str, each_of, item, map_err, no_items, read_market, ◌and_then◌, GivesOr, Memory, Request, Token, read_message, string, view, whole}
+use Rattle.mv_format.specs.Words.{Data, Items, Kind, LineFault, LineField, LineKind, Pack, as_array, as_list, as_str, each_of, item, map_err, no_items, read_market, ◌and_then◌, Request, Token, read_message, string, whole}
 use Rattle.mv_format.specs.Reading.{member_at}
 use Rattle.mv_json.specs.Met.{BeginWith}
 use Rattle.mv_json.specs.inside.Parts.{HasMet}
 use Rattle.mv_format.specs.declared.line_fields.LineFields.{LineFields}
-use Rattle.mv_format.specs.declared.line_fields.LineObject.{LineObject}
 use Rattle.mv_message.specs.declared.message.Message.{Message as AMessage}
 use Rattle.mv_format.specs.Fields.{field_name}
 use Rattle.mv_format.specs.Kinds.{shape_of}
 use Rattle.mv_format.specs.Requests.{asked_at, read_request}
 use Rattle.mv_format.specs.declared.field.LineField.TheVariants as fields
-use Rattle.mv_format.specs.declared.line_fields.LineObject.TheVariants as objects
 
 -- what each member of a list is read as, in its order, or the fault of the first bad one
 abbrev pub read_all : {A : Type 0} → (Data → Result A LineFault) → Items → Result (List A) LineFault
@@ -88,19 +86,6 @@ BeginWithPart ts part rest = (found : Data) × BeginWith 2 ts found rest × IsPa
 -- the tokens are an object that has the fields that were met, and no other, then the rest
 abbrev pub BeginWithFields : List Token → LineFields → List Token → Type 0
 BeginWithFields ts met rest = (found : Data) × BeginWith 3 ts found rest × HasFields found met
-
--- what a reading of an object gives is told by its fields
-abbrev pub Tells : {A : Type 0} → (Data → Result A LineFault) → LineFields → A → Type 0
-Tells reading met x = (value : Data) → HasFields value met → reading value ≡ Ok x
-
--- the object is that value
-abbrev pub Stands : Data → LineObject → Type 0
-Stands value (objects.Met met) = HasFields value met.now
-Stands value (objects.Value said) = value ≡ view said.now
-
--- a reading of the object gives this, or want of memory stands in its place
-abbrev pub MayGive : {A : Type 0} → (Data → Result A LineFault) → LineObject → Result A LineFault → Type 0
-MayGive reading object result = (value : Data) → Stands value object → GivesOr result (reading value) Memory
 
 -- what the fields of a line of a kind ask, one after the other
 abbrev pub asked_by : LineKind → Data → Result Request LineFault

@@ -8,12 +8,7 @@ always (Ok u) x = tt
 always (Err e) x = x
 
 -- what was not written
-pub returns-in_err-say_step-in-Some-clause-left : goal.returns-in_err-say_step-in-Some-clause-left
-returns-in_err-say_step-in-Some-clause-left c =
-    let said = not_said _ _ (line_at c.args._number c.args.line.now) _ _ c.say_step.result (c.say_step.ensures _ c.in-Some.ensures) in
+pub returns-in_err-say-clause-left : goal.returns-in_err-say-clause-left
+returns-in_err-say-clause-left c =
+    let said = not_said _ _ (line_at c.args._number c.args.line.now) _ _ c.say.result c.say.ensures in
     always c.from_residual.result (search (rules, said))
-
-pub returns-in_err-say_read-in-None-clause-left : goal.returns-in_err-say_read-in-None-clause-left
-returns-in_err-say_read-in-None-clause-left c =
-    let said = not_said _ _ (line_at c.args._number c.args.line.now) _ _ c.say_read.result c.say_read.ensures in
-    always c.from_residual-in_err-say_read-in-None.result (search (rules, said))

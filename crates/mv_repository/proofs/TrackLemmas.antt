@@ -14,20 +14,18 @@ before_get log x [] i d h l = absurd (omega arith)
 before_get log x (j ∷ js) zero d h l = h.0
 before_get log x (j ∷ js) (suc i) d h l = before_get log x js i d h.1 (omega arith)
 
-pub not_twice : (b c : Bool) → not b ≡ c → b ≡ not c
-not_twice b c e = grind (arith, nat_tests)
-
 module _ (log : List LogEntry) (new : ℕ) where
   -- the newest does not pass the entry at a place
-  abbrev pub stays_at : ℕ → Bool
+  abbrev stays_at : ℕ → Bool
   stays_at place = not (passes (entry_at log new) (entry_at log place))
 
   -- what passes one passes all from there on
-  pub parted : (places : List ℕ) → Ascends (map (entry_at log) places) → IsPartitionedBy stays_at places
-  parted [] a i j d h l e = absurd (omega arith)
-  parted (p ∷ ps) a zero zero d h l e = e
-  parted (p ∷ ps) a zero (suc j) d h l e = grind (arith, nat_tests, before_get log (entry_at log p) ps j d a.0)
-  parted (p ∷ ps) a (suc i) j d h l e = grind (arith, nat_tests, parted ps a.1 i)
+  pub parted : (places : List ℕ) → Ascends (map (entry_at log) places) → (i j d e : ℕ) → i ≤ j → j < length places
+      → passes (entry_at log new) (entry_at log (get_or places i d)) ≡ true → passes (entry_at log new) (entry_at log (get_or places j e)) ≡ true
+  parted [] a i j d e h l p = absurd (omega arith)
+  parted (p ∷ ps) a zero zero d e h l is = is
+  parted (p ∷ ps) a zero (suc j) d e h l is = grind (arith, nat_tests, before_get log (entry_at log p) ps j e a.0)
+  parted (p ∷ ps) a (suc i) j d e h l is = grind (arith, nat_tests, parted ps a.1 i)
 
   -- those places whose entries the newest does not pass
   abbrev pub places_before : List ℕ → List ℕ

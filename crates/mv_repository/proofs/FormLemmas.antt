@@ -99,3 +99,12 @@ module _ (whole : List LogEntry) (place : ℕ) (l : length whole ≡ place + 1) 
 
   pub tables-noted : (tables : Tables) → place < 4294967296 → IsNoted entry.item → AreTablesOf log tables → AreTablesOf whole tables
   tables-noted tables fits noted are = grind (arith, nat_tests, masters-at tables.masters.entries noted.2 are.masters, few-at noted.0.1 fits are.few, shelves-at tables.shelves.entries noted.0 (same-at noted.1) are.shelves, stops-at)
+
+-- tables whose entries are those of others
+pub tables-same : (log : List LogEntry) (old new : Tables) → new.masters.entries ≡ old.masters.entries → new.stops ≡ old.stops → new.shelves.entries ≡ old.shelves.entries → AreTablesOf log old → AreTablesOf log new
+tables-same log old new masters stops shelves are = record {
+  masters = subst (AreMastersOf log) (sym masters) are.masters;
+  stops = subst (AreStopsOf log) (sym stops) are.stops;
+  shelves = λ gtin. subst (λ entries. AreShelfOf log gtin (shelf_of gtin entries)) (sym shelves) (are.shelves gtin);
+  few = are.few;
+}

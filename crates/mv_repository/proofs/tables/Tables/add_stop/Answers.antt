@@ -1,5 +1,5 @@
 -- The first works out the packs that it may bear on; any other changes none.
-use Rattle.mv_repository.proofs.Lemmas.{◌≡◌, ◌∙◌, AreStopsOf, arith, bytes_eq, comes_first, rules, ap, refl, subst, sym, get_or, take, true, false, Option, None, lookup, unwrap_or, ShelfParts, AreShelfOf, first_place, no_shelf, recall-added, shelf_of, no_entry, stopped_product, shelf-empty, few-at, masters-at, shelves-at, shelved-none, tables-follow, stop-form, stop-does, stop-leaves, stop-away, withdrawal-added, AreTablesOf, Bool, effect_of, lasting_effect, not, HasFirst, Tables, is_recall_of, is_same_batch, is_withdrawal_of}
+use Rattle.mv_repository.proofs.Lemmas.{◌≡◌, ◌∙◌, AreStopsOf, arith, bytes_eq, comes_first, nat_tests, rules, ap, refl, subst, sym, get_or, take, true, false, Option, None, lookup, unwrap_or, ShelfParts, AreShelfOf, first_place, no_shelf, recall-added, shelf_of, no_entry, stopped_product, shelf-empty, few-at, masters-at, shelves-at, shelved-none, tables-follow, stop-form, stop-does, stop-leaves, stop-away, withdrawal-added, AreTablesOf, Bool, effect_of, lasting_effect, not, HasFirst, Tables, is_recall_of, is_same_batch, is_withdrawal_of}
 use Rattle.mv_repository.proofs.tables.Tables.add_stop.Goals.{In_ok-is_first, in-OfBatch, in-OfProduct}
 use Rattle.mv_repository.proofs.tables.Tables.add_stop.Goals as goal
 
@@ -53,7 +53,7 @@ pub returns-in_default-clause-ok : goal.returns-in_default-clause-ok
 returns-in_default-clause-ok c = let at = (goal.at.returns-in_default-clause-ok c).In_ok-is_first in
     let form = stop-form c.args.stop.now (get_or c.args.log.now c.args.place no_entry).item c.requires.stop in
     let gtin = stopped_product c.args.stop.now in
-    let none : lookup (bytes_eq gtin) (was at).shelves.entries ≡ None = search rules in
+    let none : lookup (bytes_eq gtin) (was at).shelves.entries ≡ None = grind arith in
     let empty : shelf_of gtin (was at).shelves.entries ≡ no_shelf = ap (λ (o : Option ShelfParts). unwrap_or o no_shelf) none in
     let left : c.get_mut.follows.lender-at-none.entries ≡ (was at).shelves.entries = search rules in
     tables-follow c.args.log.now c.args.place c.requires.last (was at) _ gtin no_shelf form.1 (tables at) refl (added at) (shelved-none (was at).shelves.entries _ gtin left empty)
@@ -69,13 +69,13 @@ refresh-requires-clause-stops c = added (goal.at.refresh-requires-clause-stops c
 pub refresh-requires-clause-shelf : goal.refresh-requires-clause-shelf
 refresh-requires-clause-shelf c = let at = (goal.at.refresh-requires-clause-shelf c).In_ok-is_first in
     let gtin = stopped_product c.args.stop.now in
-    let shelf : shelf_of gtin (was at).shelves.entries ≡ c.in-Some.shelf.now = search rules in
+    let shelf : shelf_of gtin (was at).shelves.entries ≡ c.in-Some.shelf.now = grind arith in
     subst (AreShelfOf (take c.args.place c.args.log.now) gtin) shelf ((tables at).shelves gtin)
 
 pub returns-clause-ok : goal.returns-clause-ok
 returns-clause-ok c = let at = (goal.at.returns-clause-ok c).In_ok-is_first in
     let form = stop-form c.args.stop.now (get_or c.args.log.now c.args.place no_entry).item c.requires.stop in
-    tables-follow c.args.log.now c.args.place c.requires.last (was at) _ (stopped_product c.args.stop.now) c.refresh.new.self form.1 (tables at) refl (added at) (λ other. search rules)
+    tables-follow c.args.log.now c.args.place c.requires.last (was at) _ (stopped_product c.args.stop.now) c.refresh.new.self form.1 (tables at) refl (added at) (λ other. grind (arith, nat_tests))
     c.refresh.ensures (stop-away c.args.log.now c.args.place c.requires.last c.args.stop.now c.requires.stop) (few-at c.args.log.now c.args.place c.requires.last form.0.1 (omega arith) (tables at).few)
 
 pub returns-clause-effect : goal.returns-clause-effect

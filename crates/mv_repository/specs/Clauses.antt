@@ -5,7 +5,7 @@ pub use Rattle.mv_repository.specs.Repository.{counts_of, uploaded_packs, items_
 pub use Rattle.mv_repository.specs.Pack.{code_of, effect_of, ChangeNamesStatus, is_active, is_recalled, is_withdrawn, known_pack, pack_state, revert_effect, held_of}
 pub use Rattle.mv_repository.specs.inside.Tables.{AreTablesOf, IsInquiriesOf, has_reply, inquiry_after, query_of}
 pub use Rattle.mv_repository.specs.Order.{Ascends, IsOrderOf, ordered, passes, rank, stands_before}
-pub use Rattle.mv_repository.specs.inside.Shelf.{AreShelfOf, AreSlots, IsNamed, IsSpot, Writes, no_slot, serial_of, serials_uploaded, IsAgain, IsPut, IsRefreshed, IsUploadOf, is_counted, kept_by, kept_in, lists, may_stop, no_shelf, nothing_kept, shelf_by}
+pub use Rattle.mv_repository.specs.inside.Shelf.{AreShelfOf, AreSlots, IsNamed, IsSpot, Writes, no_slot, serial_of, serials_uploaded, IsAgain, IsPut, IsRefreshed, IsUploadOf, is_counted, kept_by, kept_in, listing_of, lists, no_shelf, nothing_kept, shelf_by}
 pub use Rattle.mv_repository.specs.Bearing.{entry_at, entry_of, first_stops, first_upload, is_before, is_status_of, message_in, pack_grown, recalled_batches, standing_at, statuses_of, withdrawn_products}
 pub use Rattle.mv_repository.specs.Verdict.{answer_after, answer_to, found_active, found_explained, found_of, joint_verdict, local_verdict, verdict_when}
 pub use Rattle.std.specs.List.Sorted.{IsPartitionPoint}

@@ -1,5 +1,5 @@
 -- The pack has the status, and no other track is touched.
-use Rattle.mv_repository.proofs.Lemmas.{◌≡◌, ◌++◌, ◌∷◌, AreSlots, IfSome, IsChanged, IsKept, IsShelfOf, IsWritten, Kept, List, LogEntry, Option, Own, ShelfTable, Slot, SlotTable, Some, Writes, [], ap, arith, batch-kept, batch-noted, bytes_eq, entry_at, made_batch, on_err, shelf_by, found-own, get_or, get_or_append_left, get_or_push, is-changed, is_listed, keyed, kept_by, kept_in, length, life_batch, life_of, lists, lookup, map_err, nothing_kept, on_map, option_and_then, own-changed, own-kept, own-set, own-there, own-within, refl, shelf-same, shelf-seen, status-others, subst, sym, take, true, written-own, ℕ, ◌∙◌, entry_at, made_batch, ListingTable, length-set, set, set-get_or}
+use Rattle.mv_repository.proofs.Lemmas.{◌≡◌, ◌++◌, ◌∷◌, AreSlots, IfSome, IsChanged, IsKept, IsShelfOf, IsWritten, Kept, List, LogEntry, Option, Own, ShelfTable, Slot, SlotTable, Some, Writes, [], ap, arith, batch-kept, batch-noted, bytes_eq, entry_at, made_batch, on_err, shelf_by, found-own, get_or, get_or_append_left, get_or_push, is-changed, is_listed, keyed, kept_by, kept_in, length, life_batch, life_of, listing_of, lists, lookup, map_err, nothing_kept, on_map, option_and_then, own-changed, own-kept, own-set, own-there, own-within, refl, shelf-same, shelf-seen, status-others, subst, sym, take, true, written-own, ℕ, ◌∙◌, entry_at, made_batch, ListingTable, length-set, set, set-get_or}
 use Rattle.mv_repository.proofs.shelf.Shelf.add_status.Goals.{In-Some-Own}
 use Rattle.mv_repository.proofs.shelf.Shelf.add_status.Goals as goal
 
@@ -15,7 +15,7 @@ module _ (c : In-Some-Own) where
   table = record { hashes = c.self.inside.index.hashes; slots = c.self.inside.slots.items; names = c.self.inside.names.items }
 
   abbrev old : ShelfTable
-  old = record { slots = keyed whole table.names table.slots; tracks = c.self.inside.tracks.items; listing = c.self.inside.listing }
+  old = record { slots = keyed whole table.names table.slots; tracks = c.self.inside.tracks.items; listing = listing_of c.self.inside.listing }
 
   seen : AreSlots whole table × IsShelfOf (take c.args.newest.now.place whole) c.args.pack.now.gtin old
   seen = shelf-seen whole c.args.newest.now.place c.args.pack.now.gtin c.self.view_is c.requires.shelf

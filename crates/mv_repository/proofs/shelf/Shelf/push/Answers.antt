@@ -1,6 +1,6 @@
 -- Where all room is got there is one more name, and one more track.
 use Rattle.std.specs.Vec.{vec_capacity, vec_len}
-use Rattle.mv_repository.proofs.Lemmas.{◌≡◌, ◌≤◌, ◌+◌, ◌-◌, min, ◌++◌, ◌∷◌, ◌∙◌, [], IfSome, Kept, List, Option, SlotTable, ap, arith, common_steps, entry_at, length, lists, made_batch, option_and_then, on_err, subst, sym, true, ℕ}
+use Rattle.mv_repository.proofs.Lemmas.{◌≡◌, ◌≤◌, ◌+◌, ◌-◌, min, ◌++◌, ◌∷◌, ◌∙◌, [], IfSome, Kept, List, Option, SlotTable, ap, arith, common_steps, entry_at, length, listing_of, lists, made_batch, option_and_then, on_err, subst, sym, true, ℕ}
 use Rattle.mv_repository.proofs.Words.{◌<◌, length-append, nat_tests}
 use Rattle.mv_repository.proofs.shelf.Shelf.push.Goals.{After-branch-number, In_ok-number}
 use Rattle.mv_repository.proofs.shelf.Shelf.push.Goals as goal
@@ -53,7 +53,7 @@ returns-clause-pushed c = let at = (goal.at.returns-clause-pushed c).After-branc
 
 pub returns-clause-listed : goal.returns-clause-listed
 returns-clause-listed c = (
-  subst (λ (birth : Option ℕ). IfSome (option_and_then (λ place. made_batch (entry_at c.args.log.now place)) birth) (λ batch. lists c.note.new.self batch c.in_ok-number.number ≡ true)) (λ i. (c.track.view_is i).birth) c.note.ensures.added,
+  subst (λ (birth : Option ℕ). IfSome (option_and_then (λ place. made_batch (entry_at c.args.log.now place)) birth) (λ batch. lists (listing_of c.note.new.self) batch c.in_ok-number.number ≡ true)) (λ i. (c.track.view_is i).birth) c.note.ensures.added,
   λ batch other h. c.note.ensures.kept batch other (subst (λ listing. lists listing batch other ≡ true) (λ i. (sym c.self.view_is i).listing) h),
 )
 

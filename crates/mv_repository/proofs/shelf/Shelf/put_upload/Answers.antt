@@ -1,5 +1,5 @@
 -- The pack has a slot, and the other packs keep theirs.
-use Rattle.mv_repository.proofs.Lemmas.{◌≡◌, AreSlots, IfSome, IsAgain, IsPut, IsWritten, Kept, List, LogEntry, Made, Option, Own, ShelfParts, ShelfTable, Slot, SlotTable, Some, [], ap, arith, bytes_eq, comes_first, entry_at, false, found-own, get_or_from_slice_get, is-changed, is_listed, keyed, kept_by, kept_in, lookup, none-changed, own-changed, own-kept, own-set, own-within, refl, serials_uploaded, shelf_by, slice_get_within, stops_in, subst, sym, true, ◌∙◌, made_batch, set, true≢false, common_steps}
+use Rattle.mv_repository.proofs.Lemmas.{◌≡◌, AreSlots, IfSome, IsAgain, IsPut, IsWritten, Kept, List, LogEntry, Made, Option, Own, ShelfParts, ShelfTable, Slot, SlotTable, Some, [], ap, arith, bytes_eq, comes_first, entry_at, false, found-own, get_or_from_slice_get, is-changed, is_listed, keyed, kept_by, kept_in, listing_of, lookup, none-changed, own-changed, own-kept, own-set, own-within, refl, serials_uploaded, shelf_by, slice_get_within, stops_in, subst, sym, true, ◌∙◌, made_batch, set, true≢false, common_steps}
 use Rattle.mv_repository.proofs.shelf.Shelf.put_upload.Goals.{After-put, In-Some-Own, in_default-via-in-Some+in_default, in_default-via-in_default}
 use Rattle.mv_repository.proofs.shelf.Shelf.put_upload.Goals as goal
 
@@ -82,12 +82,12 @@ returns-clause-put c = let at = (goal.at.returns-clause-put c).In-Some-Own in
     let number = c.in-Some-Own.number in
     let track = c.refresh.new.self in
     let first : comes_first log place (kept_by tracks (lookup (bytes_eq serial) slots)).birth ≡ true = grind arith in
-    subst (λ (parts : ShelfParts). IsPut log stops c.args.gtin.now place serial (shelf_by log parts) (record { slots = slots; tracks = set tracks number track; listing = c.note.new.self })) c.self.view_is (record {
-      changed = own-changed log one (are at) tracks c.self.invariant.1 serial number (found at) track c.self.inside.listing c.note.new.self c.note.ensures.kept;
+    subst (λ (parts : ShelfParts). IsPut log stops c.args.gtin.now place serial (shelf_by log parts) (record { slots = slots; tracks = set tracks number track; listing = listing_of c.note.new.self })) c.self.view_is (record {
+      changed = own-changed log one (are at) tracks c.self.invariant.1 serial number (found at) track (listing_of c.self.inside.listing) (listing_of c.note.new.self) c.note.ensures.kept;
       later = λ e. absurd (true≢false (sym first ∙ e));
       again = λ e. subst (λ (pair : Kept × Kept). IsAgain log stops c.args.gtin.now (Some place) pair.0 pair.1)
           (λ i. (sym (own-kept log one (are at) tracks c.self.invariant.1 serial number (found at) c.index_mut.result.now c.index_mut.ensures.value) i, sym (own-set log one (are at) tracks c.self.invariant.1 serial number (found at) track) i)) c.refresh.ensures;
-      listed = λ e. subst (λ (slot : Option Slot). IfSome (made_batch (entry_at log place)) (λ batch. is_listed c.note.new.self slot batch ≡ true)) (sym (found at)) c.note.ensures.added;
+      listed = λ e. subst (λ (slot : Option Slot). IfSome (made_batch (entry_at log place)) (λ batch. is_listed (listing_of c.note.new.self) slot batch ≡ true)) (sym (found at)) c.note.ensures.added;
     })
 
 pub returns-clause-room : goal.returns-clause-room

@@ -12,6 +12,6 @@ invariant-loop-number l = record {
 abbrev pub invariant-loop-listed : goal.invariant-loop-listed
 invariant-loop-listed l = record {
   count : length l.tracks.items ≡ length l.initial.tracks.items;
-  tracks : (other : ℕ) → IsRefreshed l.newest.log.now (stops_in l.newest.log.now l.newest.stops.now) l.gtin (list_any (λ one. other == one) (take l.listed-index l.numbers))
+  tracks : (other : ℕ) → IsRefreshed l.newest.log.now (stops_in l.newest.log.now l.newest.stops.now) l.gtin (list_any (λ one. other == one) (take l.listed-index l.listed-items))
       (get_or l.initial.tracks.items other nothing_kept) (get_or l.tracks.items other nothing_kept);
 }

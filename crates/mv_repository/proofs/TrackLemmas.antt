@@ -181,7 +181,10 @@ module _ (log : List LogEntry) (entry : LogEntry) (pack : PackKey) (xs : List Pl
   effect-front : (birth : Option Placed) → IfSome birth (λ y. get_or whole y.place no_entry ≡ y.entry) → IfSome birth (λ y. y.place < length log)
       → effect_at whole S pack.gtin (option_map place_of birth) (map place_of xs) (length log) ≡ effect (pack_grown S pack (counted x birth) xs)
   effect-front None b l = refl
-  effect-front (Some birth) b l = grind (arith, nat_tests, entry-stands, fold-own whole S pack.gtin birth xs b stand, grown-by, newest-stands)
+  effect-front (Some birth) b l = (λ i. effect_on S pack.gtin (entry-stands whole birth b i) (fold-own whole S pack.gtin birth xs b stand i) (entry-stands whole x (newest-stands log entry) i)) ∙ front birth l
+    where
+      front : (birth : Placed) → birth.place < length log → effect_on S pack.gtin birth (fold (next_by S pack.gtin (Some birth)) birth xs) x ≡ effect (pack_grown S pack (counted x (Some birth)) xs)
+      front birth l = grind (arith, nat_tests, grown-by S pack birth xs)
 
 -- it is what the status does
 pub status-effect : (log : List LogEntry) (entry : LogEntry) (tables : Stops) (pack : PackKey) (front : List ℕ) → AreStopsOf log tables → is_status_of pack entry.item ≡ true

@@ -121,3 +121,12 @@ returns-clause-ok c = record {
   shelf = status-others (log c) c.args.newest.now.place c.args.pack.now c.args.newest.now.last c.requires.own (was c) (new c) (are c).1 (changed c)
       (record { kept = subst (IsKept (life_of c.args.pack.now (log c))) (sym (now c)) c.in_ok-effect.ensures.ok; listed = listed c });
 }
+
+pub returns-in-Some-Own-clause-effect : goal.returns-in-Some-Own-clause-effect
+returns-in-Some-Own-clause-effect c = c.add_status.ensures.effect
+
+pub returns-clause-effect : goal.returns-clause-effect
+returns-clause-effect c = c.in_ok-effect.ensures.effect
+
+pub returns-in_err-effect-clause-err : goal.returns-in_err-effect-clause-err
+returns-in_err-effect-clause-err c = on_err c.from_residual.result _ c.requires.shelf

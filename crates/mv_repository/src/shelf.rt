@@ -256,8 +256,13 @@ impl Shelf {
         if let Some(Slot::Own(number)) = spot.slot {
             return self.tracks[number as usize].add_status(newest, pack);
         }
-        let (birth, _, _) = self.kept(spot.slot);
-        let mut track = Track::new(alloc, birth);
+        let (birth, _, by) = self.kept(spot.slot);
+        let mut track = Track {
+            birth,
+            statuses: Vec::new(alloc),
+            by,
+            blocks: Vec::new(alloc),
+        };
         let effect = track.add_status(newest, pack)?;
         let number = self.push(newest.log, &pack.serial, track)?;
         self.put(spot, Slot::Own(number));

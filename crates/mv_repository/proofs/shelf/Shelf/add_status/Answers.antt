@@ -107,7 +107,7 @@ module _ (c : goal.After-put) where
 
 pub add_status-requires-2-clause-kept : goal.add_status-requires-2-clause-kept
 add_status-requires-2-clause-kept c = let slots = c.args.self.now.table in
-    let made : kept_by c.args.self.now.tracks (lookup (bytes_eq c.args.pack.now.serial) (keyed c.args.newest.now.log.now slots.names slots.slots)) ≡ c.new-track.result = grind arith in
+    let made : kept_by c.args.self.now.tracks (lookup (bytes_eq c.args.pack.now.serial) (keyed c.args.newest.now.log.now slots.names slots.slots)) ≡ record { birth = c.kept-birth.result.0; statuses = c.new.result.items; by = c.kept-birth.result.2; blocks = c.new-2.result.items } = grind arith in
     subst (IsKept (life_of c.args.pack.now (take c.args.newest.now.place c.args.newest.now.log.now))) made
     ((shelf-seen c.args.newest.now.log.now c.args.newest.now.place c.args.pack.now.gtin refl c.requires.shelf).1.packs c.args.pack.now.serial).kept
 

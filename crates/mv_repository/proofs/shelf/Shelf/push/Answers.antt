@@ -1,6 +1,6 @@
 -- Where all room is got there is one more name, and one more track.
 use Rattle.std.specs.Vec.{vec_capacity, vec_len}
-use Rattle.mv_repository.proofs.Lemmas.{◌≡◌, ◌≤◌, ◌+◌, ◌-◌, min, ◌++◌, ◌∷◌, ◌∙◌, [], IfSome, Kept, List, Option, SlotTable, ap, arith, common_steps, entry_at, length, listing_of, lists, made_batch, option_and_then, on_err, subst, sym, true, ℕ}
+use Rattle.mv_repository.proofs.Lemmas.{◌≡◌, ◌≤◌, ◌+◌, ◌-◌, min, ◌++◌, ◌∷◌, ◌∙◌, [], IfSome, List, Option, ap, arith, common_steps, entry_at, length, listing_of, lists, made_batch, option_and_then, on_err, subst, sym, true, ℕ}
 use Rattle.mv_repository.proofs.Words.{◌<◌, length-append, nat_tests}
 use Rattle.mv_repository.proofs.shelf.Shelf.push.Goals.{After-branch-number, In_ok-number}
 use Rattle.mv_repository.proofs.shelf.Shelf.push.Goals as goal

@@ -102,9 +102,5 @@ module _ (whole : List LogEntry) (place : ℕ) (l : length whole ≡ place + 1) 
 
 -- tables whose entries are those of others
 pub tables-same : (log : List LogEntry) (old new : Tables) → new.masters.entries ≡ old.masters.entries → new.stops ≡ old.stops → new.shelves.entries ≡ old.shelves.entries → AreTablesOf log old → AreTablesOf log new
-tables-same log old new masters stops shelves are = record {
-  masters = subst (AreMastersOf log) (sym masters) are.masters;
-  stops = subst (AreStopsOf log) (sym stops) are.stops;
-  shelves = λ gtin. subst (λ entries. AreShelfOf log gtin (shelf_of gtin entries)) (sym shelves) (are.shelves gtin);
-  few = are.few;
-}
+tables-same log old new masters stops shelves are =
+    record { masters = subst (AreMastersOf log) (sym masters) are.masters; stops = subst (AreStopsOf log) (sym stops) are.stops; shelves = λ gtin. subst (λ entries. AreShelfOf log gtin (shelf_of gtin entries)) (sym shelves) (are.shelves gtin); few = are.few }

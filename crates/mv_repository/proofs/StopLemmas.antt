@@ -120,19 +120,13 @@ module _ (whole : List LogEntry) (place : ℕ) (l : length whole ≡ place + 1) 
       → HasFirst is_same_batch whole place key tables.recalls.entries recalls → AreFirsts whole recalls tables.withdrawals.entries
   recall-added tables key recalls are own = let form = recall-form key entry.item own in
       at-newest whole place l (λ w n. HasFirst is_same_batch w n key tables.recalls.entries recalls → AreFirsts w recalls tables.withdrawals.entries)
-      (λ has. (
-        firsts-more is_same_batch is_recall_of recalled_in log entry tables.recalls.entries key (same_batch key) (batch-self key) are.recalls form.0 recalls (one-recall key entry.item own) has,
-        withdrawals-stay log entry tables.withdrawals.entries form.1 are.withdrawals,
-      ))
+      (λ has. (firsts-more is_same_batch is_recall_of recalled_in log entry tables.recalls.entries key (same_batch key) (batch-self key) are.recalls form.0 recalls (one-recall key entry.item own) has, withdrawals-stay log entry tables.withdrawals.entries form.1 are.withdrawals))
 
   pub withdrawal-added : (tables : Stops) (key : List ℕ) (withdrawals : List (List ℕ × ℕ)) → AreStopsOf log tables → is_withdrawal_of key entry.item ≡ true
       → HasFirst bytes_eq whole place key tables.withdrawals.entries withdrawals → AreFirsts whole tables.recalls.entries withdrawals
   withdrawal-added tables key withdrawals are own = let form = withdrawal-form key entry.item own in
       at-newest whole place l (λ w n. HasFirst bytes_eq w n key tables.withdrawals.entries withdrawals → AreFirsts w tables.recalls.entries withdrawals)
-      (λ has. (
-        recalls-stay log entry tables.recalls.entries form.1 are.recalls,
-        firsts-more bytes_eq is_withdrawal_of withdrawn_in log entry tables.withdrawals.entries key (λ other h. same_text key other (sym h)) (text-self key) are.withdrawals form.0 withdrawals (one-withdrawal key entry.item own) has,
-      ))
+      (λ has. (recalls-stay log entry tables.recalls.entries form.1 are.recalls, firsts-more bytes_eq is_withdrawal_of withdrawn_in log entry tables.withdrawals.entries key (λ other h. same_text key other (sym h)) (text-self key) are.withdrawals form.0 withdrawals (one-withdrawal key entry.item own) has))
 
   -- it bears on no pack of another product
   life-away : (stop : Stop) → is_stop stop entry.item ≡ true → (pack : PackKey) → bytes_eq (stopped_product stop) pack.gtin ≡ false → life_of pack whole ≡ life_of pack log
@@ -197,14 +191,8 @@ module _ (whole : List LogEntry) (place : ℕ) (tables : Stops) (gtin : List ℕ
           grind (arith, nat_tests)
 
       pack : (serial : List ℕ) → IsPackOf (life_of (pack_key gtin serial) whole) (record shelf { tracks = tracks }) serial
-      pack serial = record {
-        kept = by serial (lookup (bytes_eq serial) shelf.slots) refl (of.packs serial).kept;
-        listed = grind (arith, first-stays serial, (of.packs serial).listed);
-      }
+      pack serial = record { kept = by serial (lookup (bytes_eq serial) shelf.slots) refl (of.packs serial).kept; listed = grind (arith, first-stays serial, (of.packs serial).listed) }
 
   -- a product with no shelf has no pack
   pub shelf-empty : AreShelfOf front gtin no_shelf → AreShelfOf whole gtin no_shelf
-  shelf-empty of = record {
-    slots = record { hashes = refl; named = tt; distinct = of.slots.distinct };
-    shelf = shelf-again (λ number. true) (shelf_by front no_shelf) [] (λ number. none-again None) (λ serial number e h. absurd (true≢false h)) of.shelf;
-  }
+  shelf-empty of = record { slots = record { hashes = refl; named = tt; distinct = of.slots.distinct }; shelf = shelf-again (λ number. true) (shelf_by front no_shelf) [] (λ number. none-again None) (λ serial number e h. absurd (true≢false h)) of.shelf }

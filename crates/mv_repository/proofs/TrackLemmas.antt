@@ -1,5 +1,5 @@
 -- What is kept of a pack, and worked out by places in a log, is what the log means; and where a status goes.
-use Rattle.mv_repository.proofs.Words.{AllByRecursion, AreBlocks, AreStopsOf, Ascends, BatchKey, BatchStanding, Block, Carried, Effect, FirstStops, IfSome, IsCovered, IsKept, IsTrack, Item, Kept, KnownPack, List, LogEntry, None, Option, PackKey, PartySet, Placed, Some, Status, Stops, [], ap, arith, batch_key, batch_standing, change_effect, cond, cond_both, drop, drop-map, effect_after, effect_from, effect_of, effect_on, entries_before, entry_at, false, filter, first_stops, first_upload, fold, get_or, get_or-insert_at, insert, is_active, is_done, is_master, is_same_pack, is_status_of, is_upload_of, known_pack, length, length-map, length-take-le, life_of, map, message_in, nat_tests, next_by, next_place, no_entry, option_map, option_map_or, ordered, pack_grown, place_of, refl, rules, standing_at, statuses_of, stops_in, subst, sym, take, take-map, take_at, kept_of, true, true≢false, without, uploaded_in, ℕ, ◌+◌, ◌<◌, ◌∙◌, ◌∷◌, ◌≡◌, ◌≤◌, zero, suc, not, Bool, passes, stands_before, IsPartitionedBy, IsPartitionPoint, standing_of}
+use Rattle.mv_repository.proofs.Words.{AllByRecursion, AreBlocks, AreStopsOf, Ascends, BatchKey, BatchStanding, Block, Carried, Effect, FirstStops, IfSome, IsCovered, IsKept, IsTrack, Item, Kept, KnownPack, List, LogEntry, None, Option, PackKey, PartySet, Placed, Some, Status, Stops, [], ap, arith, batch_key, batch_standing, change_effect, cond, cond_both, drop, drop-map, effect_after, effect_from, effect_of, effect_on, entries_before, entry_at, false, filter, first_stops, first_upload, fold, get_or, get_or-insert_at, insert, is_active, is_done, is_master, is_same_pack, is_status_of, is_upload_of, known_pack, length, length-map, length-take-le, life_of, map, message_in, nat_tests, next_by, next_place, no_entry, option_map, option_map_or, ordered, pack_grown, place_of, refl, rules, standing_at, statuses_of, stops_in, subst, sym, take, take-map, take_at, kept_of, true, true≢false, without, uploaded_in, ℕ, ◌+◌, ◌<◌, ◌∙◌, ◌∷◌, ◌≡◌, ◌≤◌, zero, suc, not, Bool, passes, stands_before, IsPartitionPoint, standing_of}
 use Rattle.mv_repository.proofs.OrderLemmas.{ordered-ascends, ordered-below, ordered-stand, Stand, still-stand, StandsBeforeAll}
 use Rattle.mv_repository.proofs.BlockLemmas.{without-insert}
 use mathlib.Core.Path.{transport}
@@ -128,10 +128,7 @@ module _ (whole log : List LogEntry) (tables : Stops) (pack : PackKey) (stand : 
       ∙ blocks-same (first_upload pack (ordered log)) there kept.blocks
 
   pub track-worked : (kept : Kept) → IsKept (life_of pack log) kept → IsTrack whole (stops_in whole tables) pack.gtin kept
-  track-worked kept k = record {
-    by = grind (arith, by-same (first_upload pack (ordered log)) there);
-    blocks = transport (sym (kept-same kept (ap (λ (one : Kept). one.birth) k.bare) (ap (λ (one : Kept). one.statuses) k.bare))) k.blocks;
-  }
+  track-worked kept k = record { by = grind (arith, by-same (first_upload pack (ordered log)) there); blocks = transport (sym (kept-same kept (ap (λ (one : Kept). one.birth) k.bare) (ap (λ (one : Kept). one.statuses) k.bare))) k.blocks }
 
   pub track-means : (kept : Kept) → kept.birth ≡ option_map place_of (first_upload pack (ordered log)) → kept.statuses ≡ map place_of own
       → IsTrack whole (stops_in whole tables) pack.gtin kept → IsKept (life_of pack log) kept
@@ -251,15 +248,7 @@ module _ (whole : List LogEntry) (place : ℕ) (tables : Stops) (pack : PackKey)
       at-newest whole place l (λ w n. at ≤ length old.statuses → IsCutFor w n old.statuses at → own ≡ insert old.statuses at n → IsTrack w (stops_in w tables) pack.gtin (put own by blocks)
       → effect ≡ effect_at w (stops_in w tables) pack.gtin old.birth (take at own) n → IsKept (life_of pack w) (put own by blocks) × (effect ≡ effect_of log entry))
       (λ within cut o worked done.
-      grind (
-        arith,
-        nat_tests,
-        length-take-le,
-        place_cut (longer log entry) (length log) old.statuses at within cut,
-        take_at,
-        status-effect log entry tables pack (take at own) stops is,
-        track-status log entry tables pack (put own by blocks) stops is,
-      ))
+      grind (arith, nat_tests, length-take-le, place_cut (longer log entry) (length log) old.statuses at within cut, take_at, status-effect log entry tables pack (take at own) stops is, track-status log entry tables pack (put own by blocks) stops is))
 
   pub put-known : (birth at by : ℕ) (blocks : List Block) (effect : Effect) (own : List ℕ) → is_status_of pack entry.item ≡ true → at ≤ length old.statuses → IsCutFor whole place old.statuses at
       → own ≡ insert old.statuses at place → old.birth ≡ Some birth → by ≡ fold (onward birth) birth own → AreBlocks (entry_at whole) (onward birth) birth birth blocks own

@@ -25,12 +25,4 @@ returns-clause-added c = lists-now c.args.self.now.is_whole _ _ c.in-Some-Upload
 
 pub returns-clause-kept : goal.returns-clause-kept
 returns-clause-kept c batch number h = lists-stay c.args.self.now.is_whole c.args.self.now.batches.entries _ batch number
-    (stays-in c.args.self.now.batches.entries _ _ c.copy.result _ c.new.result c.or_insert.result.now c.insert.new.self c.args.number (c.in-Ok.ensures.update.0 c.insert.new.self).0 (search rules) c.in-Ok.ensures.value c.or_insert.ensures.value c.in-Ok-insert.ensures.updates.0 batch number)
-    h
-
--- where they are not all, each number may be of each batch
-any-listed : (found : Option (List ℕ)) → IfSome found (λ batch. true ≡ true)
-any-listed found = search rules
-
-pub returns-2-clause-added : goal.returns-2-clause-added
-returns-2-clause-added c = any-listed _
+    (stays-in c.args.self.now.batches.entries _ _ c.copy.result _ c.new.result c.or_insert.result.now c.insert.new.self c.args.number (c.in-Ok.ensures.update.0 c.insert.new.self).0 (search rules) c.in-Ok.ensures.value c.or_insert.ensures.value c.in-Ok-insert.ensures.updates.0 batch number) h

@@ -116,11 +116,7 @@ returns-in_err-number-clause-err c = let same = c.in_err-number.ensures.err in
     on_err c.from_residual-in_err-number.result _ (shelf-same _ _ c.args.self.now c.push.new.self (λ i. (same i).table) (λ i. (same i).tracks) (λ i. (same i).listing) c.requires.shelf)
 
 pub returns-clause-ok : goal.returns-clause-ok
-returns-clause-ok c = record {
-  slots = (written c).0;
-  shelf = status-others (log c) c.args.newest.now.place c.args.pack.now c.args.newest.now.last c.requires.own (was c) (new c) (are c).1 (changed c)
-      (record { kept = subst (IsKept (life_of c.args.pack.now (log c))) (sym (now c)) c.in_ok-effect.ensures.ok; listed = listed c });
-}
+returns-clause-ok c = record { slots = (written c).0; shelf = status-others (log c) c.args.newest.now.place c.args.pack.now c.args.newest.now.last c.requires.own (was c) (new c) (are c).1 (changed c) (record { kept = subst (IsKept (life_of c.args.pack.now (log c))) (sym (now c)) c.in_ok-effect.ensures.ok; listed = listed c }) }
 
 pub returns-in-Some-Own-clause-effect : goal.returns-in-Some-Own-clause-effect
 returns-in-Some-Own-clause-effect c = c.add_status.ensures.effect

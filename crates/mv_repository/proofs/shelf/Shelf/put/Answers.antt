@@ -1,6 +1,5 @@
 -- The slot goes under its serial number.
 use Rattle.mv_repository.proofs.Lemmas.{IsWritten, SlotTable, arith, subst, sym, written-behind, written-there, ◌∙◌, common_steps}
-use Rattle.mv_repository.proofs.Words.{◌≡◌, ◌≤◌, ◌+◌, ◌-◌, ◌∷◌, [], ap, length, length-append, length-set, min, nat_tests, ℕ}
 use Rattle.mv_repository.proofs.shelf.Shelf.put.Goals as goal
 
 pub returns-then-spot-len-clause-written : goal.returns-then-spot-len-clause-written
@@ -17,16 +16,3 @@ returns-else-spot-len-clause-written c =
 
 pub invariant_of-self-else-spot-len : goal.invariant_of-self-else-spot-len
 invariant_of-self-else-spot-len c = grind (arith, common_steps)
-
--- there is as much room, or room for one less
-room-stays : (room index cap length now : ℕ) → min index (cap - length) ≡ room → now ≡ length → room ≤ min index (cap - now) + 1
-room-stays room index cap length now e f = grind (arith, nat_tests)
-
-room-less : (room index cap length index' cap' now : ℕ) → min index (cap - length) ≡ room → index' + 1 ≡ index → cap' ≡ cap → now ≡ length + 1 → room ≤ min index' (cap' - now) + 1
-room-less room index cap length index' cap' now e f g h = grind (arith, nat_tests)
-
-pub returns-then-spot-len-clause-room : goal.returns-then-spot-len-clause-room
-returns-then-spot-len-clause-room c = room-stays _ c.self.inside.index.room c.self.inside.slots.cap _ _ (λ i. (c.self.view_is i).room) (length-set c.self.inside.slots.items c.args.spot.number c.args.slot)
-
-pub returns-else-spot-len-clause-room : goal.returns-else-spot-len-clause-room
-returns-else-spot-len-clause-room c = room-less _ _ _ _ _ _ _ (λ i. (c.self.view_is i).room) c.push.ensures.room c.push_reserved.ensures.capacity (ap length c.push_reserved.ensures.items ∙ length-append c.self.inside.slots.items (c.args.slot ∷ []))

@@ -8,12 +8,7 @@ module _ (c : Then-not-comes_first) where
   later = grind arith
 
 pub returns-then-not-comes_first-clause-put : goal.returns-then-not-comes_first-clause-put
-returns-then-not-comes_first-clause-put c = record {
-  changed = none-changed c.args.newest.now.log.now c.args.newest.now.place c.args.serial.now (shelf_by c.args.newest.now.log.now c.args.self.now) (later c);
-  later = λ e. refl;
-  again = λ e. absurd (true≢false (sym e ∙ later c));
-  listed = λ e. absurd (true≢false (sym e ∙ later c));
-}
+returns-then-not-comes_first-clause-put c = record { changed = none-changed c.args.newest.now.log.now c.args.newest.now.place c.args.serial.now (shelf_by c.args.newest.now.log.now c.args.self.now) (later c); later = λ e. refl; again = λ e. absurd (true≢false (sym e ∙ later c)); listed = λ e. absurd (true≢false (sym e ∙ later c)) }
 
 pub returns-then-not-comes_first-clause-first : goal.returns-then-not-comes_first-clause-first
 returns-then-not-comes_first-clause-first c = sym (later c)

@@ -1,7 +1,6 @@
 -- The tracks that may be stopped are worked out, and the entry bears on no other pack.
 use Rattle.mv_repository.proofs.Lemmas.{◌∙◌, AreShelfOf, Kept, List, ShelfTable, arith, common_steps, get_or, keyed, may_stop, no_entry, nothing_kept, shelf-again, shelf-seen, stop-form, stop-passes, stopped_product, stops_in, ℕ, IsRefreshed, SlotTable}
-use Rattle.mv_repository.proofs.Lemmas.{false, length, listed_in, listing_of, rules, true}
-use Rattle.std.proofs.Math.ListN.{get_or-eq_default}
+use Rattle.mv_repository.proofs.Lemmas.{false, listed_in, listing_of, rules, true}
 use Rattle.mv_repository.proofs.Words.{list_any, ◌≡◌, ◌+◌, ◌==◌, ◌||◌, Bool, FirstStops, LogEntry, list_any_more, nat_lt, nat_tests}
 use Rattle.mv_repository.proofs.shelf.Shelf.refresh.Goals.{After-self, in_default-via-in-OfProduct-1, in_default-via-in-OfBatch+else-self}
 use Rattle.mv_repository.proofs.shelf.Shelf.refresh.Goals as goal
@@ -20,15 +19,7 @@ module _ (c : After-self) where
       let longer = shelf-seen c.args.newest.now.log.now c.args.newest.now.place (stopped_product c.args.stop.now) c.self.view_is c.requires.shelf in
       let bears = (stop-form c.args.stop.now (get_or c.args.newest.now.log.now c.args.newest.now.place no_entry).item c.requires.stop).0 in
       let passes = stop-passes c.args.newest.now.log.now c.args.newest.now.place c.args.newest.now.last c.args.stop.now c.requires.stop old longer.1 in
-      record {
-        slots = longer.0;
-        shelf = shelf-again c.args.newest.now.log.now c.args.newest.now.place c.args.newest.now.stops.now (stopped_product c.args.stop.now) c.args.newest.now.last c.requires.stops bears (may_stop old.listing c.args.stop.now) old tracks again passes longer.1;
-      }
-
--- each number may be of a stop that bears on all; a track that is not there stays so
-all-again : (log : List LogEntry) (stops : FirstStops) (gtin : List ℕ) (was now : List Kept) (number : ℕ) → length now ≡ length was → IsRefreshed log stops gtin (nat_lt number (length was)) (get_or was number nothing_kept) (get_or now number nothing_kept)
-    → IsRefreshed log stops gtin true (get_or was number nothing_kept) (get_or now number nothing_kept)
-all-again log stops gtin was now number l h = grind (arith, nat_tests, get_or-eq_default)
+      record { slots = longer.0; shelf = shelf-again c.args.newest.now.log.now c.args.newest.now.place c.args.newest.now.stops.now (stopped_product c.args.stop.now) c.args.newest.now.last c.requires.stops bears (may_stop old.listing c.args.stop.now) old tracks again passes longer.1 }
 
 pub returns-in_default : goal.returns-in_default
 returns-in_default c = let at = (goal.at.returns-in_default c).After-self in

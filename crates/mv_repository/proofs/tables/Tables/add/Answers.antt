@@ -70,37 +70,16 @@ add_status-requires-clause-own c = status-in (get_or c.args.log.now c.args.place
 
 -- where memory is refused the tables are those that they were
 pub returns-in_default-entry-clause-err : goal.returns-in_default-entry-clause-err
-returns-in_default-entry-clause-err c = let same : c.entry.follows.lender-at-none.entries ≡ c.args.self.now.shelves.entries = search rules in
-    tables-same (take c.args.place c.args.log.now) c.args.self.now _ refl refl same c.requires.tables
+returns-in_default-entry-clause-err c = tables-same (take c.args.place c.args.log.now) c.args.self.now _ refl refl (search rules) c.requires.tables
 
 pub returns-in_default-entry-2-clause-err : goal.returns-in_default-entry-2-clause-err
-returns-in_default-entry-2-clause-err c = let same : c.entry-in-Status.follows.lender-at-none.entries ≡ c.args.self.now.shelves.entries = search rules in
-    tables-same (take c.args.place c.args.log.now) c.args.self.now _ refl refl same c.requires.tables
+returns-in_default-entry-2-clause-err c = tables-same (take c.args.place c.args.log.now) c.args.self.now _ refl refl (search rules) c.requires.tables
 
 pub returns-in-Err-clause-err : goal.returns-in-Err-clause-err
-returns-in-Err-clause-err c = let same : c.insert.new.self.entries ≡ c.args.self.now.masters.entries = search rules in
-    tables-same (take c.args.place c.args.log.now) c.args.self.now _ same refl refl c.requires.tables
+returns-in-Err-clause-err c = tables-same (take c.args.place c.args.log.now) c.args.self.now _ (search rules) refl refl c.requires.tables
 
 pub returns-in-Ok-entry-clause-effect : goal.returns-in-Ok-entry-clause-effect
 returns-in-Ok-entry-clause-effect c = c.add_upload.ensures.effect
 
 pub returns-in-Ok-entry-2-clause-effect : goal.returns-in-Ok-entry-2-clause-effect
 returns-in-Ok-entry-2-clause-effect c = c.add_status.ensures.effect
-
-pub returns-in-Recall-clause-ok : goal.returns-in-Recall-clause-ok
-returns-in-Recall-clause-ok c = c.add_stop.ensures.ok
-
-pub returns-in-Recall-clause-effect : goal.returns-in-Recall-clause-effect
-returns-in-Recall-clause-effect c = c.add_stop.ensures.effect
-
-pub returns-in-Recall-clause-err : goal.returns-in-Recall-clause-err
-returns-in-Recall-clause-err c = c.add_stop.ensures.err
-
-pub returns-in-Withdraw-clause-ok : goal.returns-in-Withdraw-clause-ok
-returns-in-Withdraw-clause-ok c = c.add_stop-in-Withdraw.ensures.ok
-
-pub returns-in-Withdraw-clause-effect : goal.returns-in-Withdraw-clause-effect
-returns-in-Withdraw-clause-effect c = c.add_stop-in-Withdraw.ensures.effect
-
-pub returns-in-Withdraw-clause-err : goal.returns-in-Withdraw-clause-err
-returns-in-Withdraw-clause-err c = c.add_stop-in-Withdraw.ensures.err

@@ -38,8 +38,4 @@ returns c = let whole = c.args.newest.now.log.now in
     c.put_late-effect.result.0 c.as_slice-statuses.result.now c.requires.own
     (subst (λ (l : List ℕ). at ≤ length l) slice c.place_for-at.ensures.within) (subst (λ (l : List ℕ). IsCutFor whole place l at) slice c.place_for-at.ensures.cut) (search rules) (search rules)
     c.put_late-effect.ensures.by c.put_late-effect.ensures.blocks c.put_late-effect.ensures.effect in
-    record {
-      ok = subst (λ (l : List ℕ). IsKept (life_of c.args.pack.now whole) (record { birth = old.birth; statuses = l; by = c.put_late-effect.result.1; blocks = c.put_late-effect.new.blocks.items })) slice-2 done.0;
-      effect = done.1;
-      err = tt;
-    }
+    record { ok = subst (λ (l : List ℕ). IsKept (life_of c.args.pack.now whole) (record { birth = old.birth; statuses = l; by = c.put_late-effect.result.1; blocks = c.put_late-effect.new.blocks.items })) slice-2 done.0; effect = done.1; err = tt }

@@ -9,7 +9,7 @@ pub use Rattle.mv_repository.proofs.UploadLemmas.{ArePacksOf, batch-kept, batch-
 pub use Rattle.mv_repository.proofs.UploadedLemmas.{count-products, count-recalled, found-any, named-upload, new-more, new_count}
 pub use Rattle.mv_repository.proofs.SlotLemmas.{found-own, is-changed, keys_keyed, none-changed, own-changed, own-kept, own-set, own-there, own-within, spot-none, spot-there, written-behind, written-own, written-there}
 pub use Rattle.mv_repository.proofs.CountedLemmas.{active-all, counted-whole, held-all, slots_in}
-pub use Rattle.mv_repository.proofs.StopLemmas.{first_place, recall-added, shelf-again, shelf-empty, stop-away, stop-does, stop-form, stop-leaves, stop-passes, withdrawal-added}
+pub use Rattle.mv_repository.proofs.StopLemmas.{first_place, recall-added, shelf-again, shelf-empty, stop-away, stop-does, stop-form, stop-leaves, stop-passes, stops-stand, withdrawal-added}
 pub use Rattle.mv_repository.proofs.FormLemmas.{map_err, few-at, few-more, master-in, masters-at, none-noted, on_both, on_err, on_map, other-noted, shelves-at, status-in, stops-at, tables-follow, tables-mastered, tables-noted, tables-same, upload-in}
 pub use Rattle.mv_repository.proofs.ProductLemmas.{comes_late, masters-late-at, masters-latest-at, product_found}
 pub use Rattle.mv_repository.proofs.InquiriesLemmas.{answer_noted, inquiry_in, known_stays, receipt_noted, verdict_known}

@@ -4,7 +4,7 @@ use Rattle.mv_repository.proofs.Words.{FirstStops, ListingTable, is_listed, list
 use Rattle.mv_repository.proofs.BeforeLemmas.{any-before}
 use Rattle.mv_repository.proofs.KeptLemmas.{life_batch, same_batch, batch-self, text-self}
 use Rattle.mv_repository.proofs.OrderLemmas.{ordered-ascends, ordered-below}
-use Rattle.mv_repository.proofs.StoppedLemmas.{once-all, one-recall, one-withdrawal}
+use Rattle.mv_repository.proofs.StoppedLemmas.{key_stays, once-all, one-recall, one-withdrawal}
 use Rattle.mv_repository.proofs.TableLemmas.{NamesNone, NoPack, at-newest, filter-none, find-later, find-none, find-some, longer, newest, recalls-stay, withdrawals-stay, log-split}
 use Rattle.mv_repository.proofs.SerialLemmas.{AreSamePacks, serials-at}
 use Rattle.mv_repository.proofs.UploadedLemmas.{first-effect}
@@ -127,6 +127,13 @@ module _ (whole : List LogEntry) (place : ℕ) (l : length whole ≡ place + 1) 
   withdrawal-added tables key withdrawals are own = let form = withdrawal-form key entry.item own in
       at-newest whole place l (λ w n. HasFirst bytes_eq w n key tables.withdrawals.entries withdrawals → AreFirsts w tables.recalls.entries withdrawals)
       (λ has. (recalls-stay log entry tables.recalls.entries form.1 are.recalls, firsts-more bytes_eq is_withdrawal_of withdrawn_in log entry tables.withdrawals.entries key (λ other h. same_text key other (sym h)) (text-self key) are.withdrawals form.0 withdrawals (one-withdrawal key entry.item own) has))
+
+  -- where it is not the first of its kind the tables stay
+  pub stops-stand : (tables : Stops) (stop : Stop) → AreStopsOf log tables → is_stop stop entry.item ≡ true → comes_first whole place (first_place stop tables) ≡ false → AreStopsOf whole tables
+  stops-stand tables (stops.OfBatch batch) are own later =
+      let both = recall-added tables batch.now tables.recalls.entries are own (record { places = λ other. grind (arith, nat_tests, later); keys = key_stays is_same_batch whole place tables.recalls.entries batch.now later }) in record { recalls = both.0; withdrawals = both.1 }
+  stops-stand tables (stops.OfProduct gtin) are own later =
+      let both = withdrawal-added tables gtin.now tables.withdrawals.entries are own (record { places = λ other. grind (arith, nat_tests, later); keys = key_stays bytes_eq whole place tables.withdrawals.entries gtin.now later }) in record { recalls = both.0; withdrawals = both.1 }
 
   -- it bears on no pack of another product
   life-away : (stop : Stop) → is_stop stop entry.item ≡ true → (pack : PackKey) → bytes_eq (stopped_product stop) pack.gtin ≡ false → life_of pack whole ≡ life_of pack log

@@ -70,13 +70,13 @@ add_status-requires-clause-own c = status-in (get_or c.args.log.now c.args.place
 
 -- where memory is refused the tables are those that they were
 pub returns-in_default-entry-clause-err : goal.returns-in_default-entry-clause-err
-returns-in_default-entry-clause-err c = tables-same (take c.args.place c.args.log.now) c.args.self.now _ refl refl (search rules) c.requires.tables
+returns-in_default-entry-clause-err c = tables-same (take c.args.place c.args.log.now) c.args.self.now _ refl refl refl (search rules) c.requires.tables
 
 pub returns-in_default-entry-2-clause-err : goal.returns-in_default-entry-2-clause-err
-returns-in_default-entry-2-clause-err c = tables-same (take c.args.place c.args.log.now) c.args.self.now _ refl refl (search rules) c.requires.tables
+returns-in_default-entry-2-clause-err c = tables-same (take c.args.place c.args.log.now) c.args.self.now _ refl refl refl (search rules) c.requires.tables
 
 pub returns-in-Err-clause-err : goal.returns-in-Err-clause-err
-returns-in-Err-clause-err c = tables-same (take c.args.place c.args.log.now) c.args.self.now _ (search rules) refl refl c.requires.tables
+returns-in-Err-clause-err c = tables-same (take c.args.place c.args.log.now) c.args.self.now _ (search rules) refl refl refl c.requires.tables
 
 pub returns-in-Ok-entry-clause-effect : goal.returns-in-Ok-entry-clause-effect
 returns-in-Ok-entry-clause-effect c = c.add_upload.ensures.effect

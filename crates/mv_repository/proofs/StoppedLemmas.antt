@@ -42,5 +42,5 @@ key_added same entries key value = keys_insert_entry same entries key value
 
 -- so the first of a kind is put in
 pub first-added : {K : Type 0} (same : K → K → Bool) (log : List LogEntry) (new : ℕ) (key : K) (before after : List (K × ℕ)) → comes_first log new (lookup (same key) before) ≡ true
-    → ((other : K) → lookup (same other) after ≡ cond (same key other) (Some new) (lookup (same other) before)) → keys_of after ≡ insert_key same (keys_of before) key → HasFirst same log new key before after
-first-added same log new key before after first looks keys = record { places = λ other. grind (arith, nat_tests, looks other); keys = keys }
+    → ((other : K) → lookup (same other) after ≡ cond (same key other) (Some new) (lookup (same other) before)) → after ≡ insert_entry same before key new → HasFirst same log new key before after
+first-added same log new key before after first looks e = record { places = λ other. grind (arith, nat_tests, looks other); keys = ap keys_of e ∙ key_added same before key new }

@@ -1,8 +1,13 @@
 -- The first works out the packs that it may bear on; any other changes none.
 use Rattle.mv_repository.proofs.Lemmas.{◌≡◌, ◌∙◌, AreStopsOf, arith, bytes_eq, comes_first, nat_tests, rules, ap, refl, subst, sym, get_or, take, true, false, Option, None, lookup, unwrap_or, ShelfParts, AreShelfOf, first_place, no_shelf, recall-added, shelf_of, no_entry, stopped_product, shelf-empty, few-at, masters-at, shelves-at, shelved-none, tables-follow, tables-same, stop-form, stop-does, stop-leaves, stop-away, stops-stand, withdrawal-added, AreTablesOf, Bool, effect_of, lasting_effect, not, HasFirst, Tables, is_recall_of, is_same_batch, is_withdrawal_of}
-use Rattle.mv_repository.proofs.StoppedLemmas.{first-added, key_added}
+use Rattle.std.specs.Prelude.{is_ok}
+use Rattle.mv_repository.proofs.Words.{OnOk, Result}
+use Rattle.mv_repository.proofs.StoppedLemmas.{first-added}
 use Rattle.mv_repository.proofs.tables.Tables.add_stop.Goals.{After-comes_first, Else-not-is_kept, in-OfBatch, in-OfBatch-stop, in-OfProduct, in-OfProduct-stop}
 use Rattle.mv_repository.proofs.tables.Tables.add_stop.Goals as goal
+
+kept-so : {A E : Type 0} (P : Type 0) → (r : Result A E) → OnOk r P → is_ok r ≡ true → P
+kept-so P r p e = grind (arith, nat_tests)
 
 module _ (c : After-comes_first) where
   first : c.comes_first.result ≡ comes_first c.args.log.now c.args.place (first_place c.args.stop.now c.args.self.now.stops)
@@ -19,12 +24,12 @@ module _ (c : Else-not-is_kept) where
   added : AreStopsOf c.args.log.now c.match-stop-2.self.stops
   added = elim c.match-stop-2.branch [
     | in-OfBatch-stop w ↦
-        let has : HasFirst is_same_batch c.args.log.now c.args.place w.copy.result c.args.self.now.stops.recalls.entries w.insert.new.self.entries = first-added is_same_batch _ _ _ _ _ (grind (arith, comes)) (λ other. grind arith) (grind (arith, key_added)) in
+        let has : HasFirst is_same_batch c.args.log.now c.args.place w.copy.result c.args.self.now.stops.recalls.entries w.insert.new.self.entries = first-added is_same_batch _ _ _ _ _ (grind (arith, comes)) (kept-so _ w.insert.result w.insert.ensures.updates (grind arith)).0 (kept-so _ w.insert.result w.insert.ensures.entries (grind arith)) in
         let own : is_recall_of w.copy.result (get_or c.args.log.now c.args.place no_entry).item ≡ true = grind arith in
         let are = recall-added c.args.log.now c.args.place c.requires.last c.args.self.now.stops w.copy.result w.insert.new.self.entries c.requires.tables.stops own has in
         subst (AreStopsOf c.args.log.now) (λ i. (sym w.self-is i).stops) (record { recalls = are.0; withdrawals = are.1 })
     | in-OfProduct-stop w ↦
-        let has : HasFirst bytes_eq c.args.log.now c.args.place w.in-OfProduct-stop.gtin.now c.args.self.now.stops.withdrawals.entries w.insert-in-OfProduct-stop.new.self.entries = first-added bytes_eq _ _ _ _ _ (grind (arith, comes)) (λ other. grind arith) (grind (arith, key_added)) in
+        let has : HasFirst bytes_eq c.args.log.now c.args.place w.in-OfProduct-stop.gtin.now c.args.self.now.stops.withdrawals.entries w.insert-in-OfProduct-stop.new.self.entries = first-added bytes_eq _ _ _ _ _ (grind (arith, comes)) (kept-so _ w.insert-in-OfProduct-stop.result w.insert-in-OfProduct-stop.ensures.updates (grind arith)).0 (kept-so _ w.insert-in-OfProduct-stop.result w.insert-in-OfProduct-stop.ensures.entries (grind arith)) in
         let own : is_withdrawal_of w.in-OfProduct-stop.gtin.now (get_or c.args.log.now c.args.place no_entry).item ≡ true = grind arith in
         let are = withdrawal-added c.args.log.now c.args.place c.requires.last c.args.self.now.stops w.in-OfProduct-stop.gtin.now w.insert-in-OfProduct-stop.new.self.entries c.requires.tables.stops own has in
         subst (AreStopsOf c.args.log.now) (λ i. (sym w.self-is i).stops) (record { recalls = are.0; withdrawals = are.1 })

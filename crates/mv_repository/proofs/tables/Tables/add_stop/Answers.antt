@@ -61,8 +61,8 @@ returns-then-not-comes_first-clause-effect c = effect (goal.at.returns-then-not-
 
 pub returns-then-not-is_kept-clause-err : goal.returns-then-not-is_kept-clause-err
 returns-then-not-is_kept-clause-err c = elim c.match-stop-2.branch [
-  | in-OfBatch-stop w ↦ tables-same _ c.args.self.now _ (grind arith) (grind arith) (grind arith) (grind arith) c.requires.tables
-  | in-OfProduct-stop w ↦ tables-same _ c.args.self.now _ (grind arith) (grind arith) (grind arith) (grind arith) c.requires.tables
+  | in-OfBatch-stop w ↦ subst (AreTablesOf (take c.args.place c.args.log.now)) (sym w.self-is) (tables-same _ c.args.self.now _ refl (grind arith) refl refl c.requires.tables)
+  | in-OfProduct-stop w ↦ subst (AreTablesOf (take c.args.place c.args.log.now)) (sym w.self-is) (tables-same _ c.args.self.now _ refl refl (grind arith) refl c.requires.tables)
 ]
 
 pub returns-in_default-clause-ok : goal.returns-in_default-clause-ok

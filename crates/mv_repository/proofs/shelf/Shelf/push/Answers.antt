@@ -5,7 +5,7 @@ use Rattle.mv_repository.proofs.shelf.Shelf.push.Goals.{After-branch-number, In_
 use Rattle.mv_repository.proofs.shelf.Shelf.push.Goals as goal
 
 module _ (c : In_ok-number) where
-  rooms : (1 ≤ c.reserve-3.new.self.room) × (vec_len c.reserve-4.new.self + 1 ≤ vec_capacity c.reserve-4.new.self) × (c.in_ok-number.number ≡ length c.self.inside.names.items)
+  rooms : (1 ≤ c.reserve-3.new.self.room) × (vec_len c.reserve-4.new.self + 1 ≤ vec_capacity c.reserve-4.new.self) × (c.in_ok-number.number ≡ length c.self.inside.names.items) × (vec_len c.reserve.new.self + 1 ≤ vec_capacity c.reserve.new.self) × (vec_len c.reserve-2.new.self + 1 ≤ vec_capacity c.reserve-2.new.self)
   rooms = grind (arith, common_steps)
 
 module _ (c : After-branch-number) where
@@ -14,6 +14,12 @@ module _ (c : After-branch-number) where
 
   tracks : c.reserve-2.new.self.items ≡ c.args.self.now.tracks
   tracks = c.reserve-2.ensures.items ∙ (λ i. (c.self.view_is i).tracks)
+
+pub push_reserved-requires : goal.push_reserved-requires
+push_reserved-requires c = omega (arith, (rooms (goal.at.push_reserved-requires c).In_ok-number).3)
+
+pub push_reserved-requires-2 : goal.push_reserved-requires-2
+push_reserved-requires-2 c = omega (arith, (rooms (goal.at.push_reserved-requires-2 c).In_ok-number).4)
 
 pub returns-clause-pushed : goal.returns-clause-pushed
 returns-clause-pushed c = let at = (goal.at.returns-clause-pushed c).After-branch-number in

@@ -1,5 +1,5 @@
 -- What the tables are after one more entry, by its form.
-use Rattle.mv_repository.proofs.Words.{◌≡◌, ◌≤◌, ◌<◌, ◌*◌, ap, ◌+◌, ℕ, List, bytes_eq, false, length, subst, sym, get_or, take, true, Option, None, Some, Result, OnOk, OnErr, [], Item, Message, Master, Upload, Status, Recall, Withdraw, Product, Standing, CivilDate, BatchKey, PackKey, LogEntry, uploaded_in, uploaded_packs, is_master, is_status_of, IsUploadOf, ordered, AreShelfOf, ShelfParts, shelf_of, Stops, first_stops, no_entry, message_in, AreStopsOf, AreTablesOf, Tables, arith, nat_tests}
+use Rattle.mv_repository.proofs.Words.{AreFirstsOf, is_same_batch, is_recall_of, is_withdrawal_of, recalled_in, withdrawn_in, ◌≡◌, ◌≤◌, ◌<◌, ◌*◌, ap, ◌+◌, ℕ, List, bytes_eq, false, length, subst, sym, get_or, take, true, Option, None, Some, Result, OnOk, OnErr, [], Item, Message, Master, Upload, Status, Recall, Withdraw, Product, Standing, CivilDate, BatchKey, PackKey, LogEntry, uploaded_in, uploaded_packs, is_master, is_status_of, IsUploadOf, ordered, AreShelfOf, ShelfParts, shelf_of, Stops, first_stops, no_entry, message_in, AreStopsOf, AreTablesOf, Tables, arith, nat_tests}
 use Rattle.mv_repository.proofs.KeptLemmas.{pack-self, text-self}
 use Rattle.mv_repository.proofs.ProductLemmas.{masters-noted}
 use Rattle.mv_repository.proofs.SerialLemmas.{AreSamePacks, IsShelved, serials-at, shelf-kept, shelves-follow}
@@ -99,3 +99,12 @@ module _ (whole : List LogEntry) (place : ℕ) (l : length whole ≡ place + 1) 
 
   pub tables-noted : (tables : Tables) → place < 4294967296 → IsNoted entry.item → AreTablesOf log tables → AreTablesOf whole tables
   tables-noted tables fits noted are = grind (arith, nat_tests, masters-at tables.masters.entries noted.2 are.masters, few-at noted.0.1 fits are.few, shelves-at tables.shelves.entries noted.0 (same-at noted.1) are.shelves, stops-at)
+
+-- tables whose entries are those of others
+pub tables-same : (log : List LogEntry) (old new : Tables) → new.masters.entries ≡ old.masters.entries → new.stops.recalls.entries ≡ old.stops.recalls.entries → new.stops.withdrawals.entries ≡ old.stops.withdrawals.entries → new.shelves.entries ≡ old.shelves.entries → AreTablesOf log old → AreTablesOf log new
+tables-same log old new masters recalls withdrawals shelves are = record {
+  masters = subst (AreMastersOf log) (sym masters) are.masters;
+  stops = record { recalls = subst (AreFirstsOf is_same_batch is_recall_of recalled_in log) (sym recalls) are.stops.recalls; withdrawals = subst (AreFirstsOf bytes_eq is_withdrawal_of withdrawn_in log) (sym withdrawals) are.stops.withdrawals };
+  shelves = λ gtin. subst (λ entries. AreShelfOf log gtin (shelf_of gtin entries)) (sym shelves) (are.shelves gtin);
+  few = are.few;
+}

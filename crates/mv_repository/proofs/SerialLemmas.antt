@@ -26,18 +26,12 @@ AreSamePacks whole before gtin =
 
 -- so its shelf stays
 pub shelf-stays : (whole before : List LogEntry) (gtin : List ℕ) (shelf : ShelfTable) → AreSamePacks whole before gtin → IsShelfOf before gtin shelf → IsShelfOf whole gtin shelf
-shelf-stays whole before gtin shelf same of = record {
-  packs = λ serial. subst (λ (l : Life). IsPackOf l shelf serial) (sym (same.0 serial)) (of.packs serial);
-  serials = of.serials ∙ sym same.1;
-}
+shelf-stays whole before gtin shelf same of = record { packs = λ serial. subst (λ (l : Life). IsPackOf l shelf serial) (sym (same.0 serial)) (of.packs serial); serials = of.serials ∙ sym same.1 }
 
 -- a log with no entry
 pub no-shelf-yet : (gtin : List ℕ) → AreShelfOf [] gtin no_shelf
 unfolding IsDistinct
-no-shelf-yet gtin = record {
-  slots = record { hashes = refl; named = tt; distinct = tt };
-  shelf = record { packs = λ serial. record { kept = record { bare = refl; blocks = tt }; listed = tt }; serials = refl };
-}
+no-shelf-yet gtin = record { slots = record { hashes = refl; named = tt; distinct = tt }; shelf = record { packs = λ serial. record { kept = record { bare = refl; blocks = tt }; listed = tt }; serials = refl } }
 
 -- what is kept on a shelf by the front of a log, is so by all of it
 pub shelf-longer : (whole : List LogEntry) (place : ℕ) (gtin : List ℕ) (parts : ShelfParts) → AreShelfOf (take place whole) gtin parts
@@ -47,10 +41,7 @@ shelf-longer whole place gtin parts of = let longer = slots-longer whole place p
 
 -- the same but for the room
 pub shelf-same : (log : List LogEntry) (gtin : List ℕ) (old new : ShelfParts) → new.table ≡ old.table → new.tracks ≡ old.tracks → new.listing ≡ old.listing → AreShelfOf log gtin old → AreShelfOf log gtin new
-shelf-same log gtin old new slots tracks listing of = record {
-  slots = subst (AreSlots log) (sym slots) of.slots;
-  shelf = subst (IsShelfOf log gtin) (λ i. record { slots = keyed log (sym slots i).names (sym slots i).slots; tracks = sym tracks i; listing = sym listing i }) of.shelf;
-}
+shelf-same log gtin old new slots tracks listing of = record { slots = subst (AreSlots log) (sym slots) of.slots; shelf = subst (IsShelfOf log gtin) (λ i. record { slots = keyed log (sym slots i).names (sym slots i).slots; tracks = sym tracks i; listing = sym listing i }) of.shelf }
 
 -- the same of a shelf as it is seen
 pub shelf-seen : {given parts : ShelfParts} (whole : List LogEntry) (place : ℕ) (gtin : List ℕ) → given ≡ parts → AreShelfOf (take place whole) gtin parts

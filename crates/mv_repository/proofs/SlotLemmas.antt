@@ -88,14 +88,7 @@ module _ (whole log : List LogEntry) (more names : List (List ℕ))
 
   slots-same : (hashes : List ℕ) (slots : List Slot) → AreSlots log (record { hashes = hashes; slots = slots; names = names })
       → AreSlots whole (record { hashes = hashes; slots = slots; names = more }) × (keyed whole more slots ≡ keyed log names slots)
-  slots-same hashes slots are = let kept = same-keyed slots are.named in (
-    record {
-      hashes = are.hashes ∙ ap (λ (l : List (List ℕ × Slot)). map serial_hash (keys_of l)) (sym kept.1);
-      named = kept.0;
-      distinct = subst (λ (l : List (List ℕ × Slot)). IsDistinct bytes_eq (keys_of l)) (sym kept.1) are.distinct;
-    },
-    kept.1,
-  )
+  slots-same hashes slots are = let kept = same-keyed slots are.named in (record { hashes = are.hashes ∙ ap (λ (l : List (List ℕ × Slot)). map serial_hash (keys_of l)) (sym kept.1); named = kept.0; distinct = subst (λ (l : List (List ℕ × Slot)). IsDistinct bytes_eq (keys_of l)) (sym kept.1) are.distinct }, kept.1)
 
 pub slots-longer : (whole : List LogEntry) (place : ℕ) (table : SlotTable) → AreSlots (take place whole) table
     → AreSlots whole table × (keyed whole table.names table.slots ≡ keyed (take place whole) table.names table.slots)
@@ -117,22 +110,12 @@ module _ (log : List LogEntry) (table : SlotTable) (are : AreSlots log table) (s
   -- where it is found, and where it is not
   pub spot-there : (hash number : ℕ) → hash ≡ serial_hash serial → number < length table.slots → here number ≡ serial
       → IsSpot log table serial (record { hash = hash; number = number; slot = Some (get_or table.slots number no_slot) })
-  spot-there hash number h l e = record {
-    hash = h;
-    slot = sym (lookup-there (serial_of log table.names) no_slot serial table.slots number l e are.distinct);
-    number = λ within. e;
-    none = λ behind. absurd (omega (arith, l, behind));
-  }
+  spot-there hash number h l e = record { hash = h; slot = sym (lookup-there (serial_of log table.names) no_slot serial table.slots number l e are.distinct); number = λ within. e; none = λ behind. absurd (omega (arith, l, behind)) }
 
   pub spot-none : (hash number : ℕ) → hash ≡ serial_hash serial → length table.slots ≤ number
       → ((number : ℕ) → number < length table.hashes → get_or table.hashes number 0 ≡ serial_hash serial → bytes_eq (here number) serial ≡ false)
       → IsSpot log table serial (record { hash = hash; number = number; slot = None })
-  spot-none hash behind h l none = record {
-    hash = h;
-    slot = sym (lookup-absent (serial_of log table.names) no_slot serial table.slots (λ number l. by number l (bytes_eq (here number) serial) refl));
-    number = λ within. absurd (omega (arith, l, within));
-    none = λ past. refl;
-  }
+  spot-none hash behind h l none = record { hash = h; slot = sym (lookup-absent (serial_of log table.names) no_slot serial table.slots (λ number l. by number l (bytes_eq (here number) serial) refl)); number = λ within. absurd (omega (arith, l, within)); none = λ past. refl }
     where
       hashes : table.hashes ≡ map serial_hash (map (serial_of log table.names) table.slots)
       hashes = are.hashes ∙ ap (map serial_hash) (keys_keyed log table.names table.slots)
@@ -149,10 +132,7 @@ module _ (log : List LogEntry) (table : SlotTable) (are : AreSlots log table) (s
     -- slots that go under their keys, with their hashes
     is-written : (hashes : List ℕ) (slots : List Slot) → keyed log table.names slots ≡ insert_entry bytes_eq entries serial new → AllByRecursion (IsNamed log table.names) slots
         → hashes ≡ map serial_hash (insert_key bytes_eq (keys_of entries) serial) → IsWritten log table (record { hashes = hashes; slots = slots; names = table.names }) serial new
-    is-written hashes slots e all h = (
-      record { hashes = h ∙ ap (map serial_hash) (sym keys); named = all; distinct = subst (IsDistinct bytes_eq) (sym keys) (distinct (keys_of entries) are.distinct) },
-      record { keys = keys; found = λ other. ap (lookup (bytes_eq other)) e ∙ lookup-insert serial new other entries },
-    )
+    is-written hashes slots e all h = (record { hashes = h ∙ ap (map serial_hash) (sym keys); named = all; distinct = subst (IsDistinct bytes_eq) (sym keys) (distinct (keys_of entries) are.distinct) }, record { keys = keys; found = λ other. ap (lookup (bytes_eq other)) e ∙ lookup-insert serial new other entries })
       where
         keys : keys_of (keyed log table.names slots) ≡ insert_key bytes_eq (keys_of entries) serial
         keys = ap keys_of e ∙ key_added bytes_eq entries serial new
@@ -212,10 +192,7 @@ module _ (serial : List ℕ) (slot : Slot) (old new : ShelfTable) (entered : IsE
     others = λ other life e of.
         let same = entered.found other ∙ ap (λ b. cond b (Some slot) (lookup (bytes_eq other) old.slots)) e in
         let both = by other e (lookup (bytes_eq other) old.slots) refl in
-        record {
-          kept = subst (IsKept life) (sym (ap (kept_by new.tracks) same ∙ both.0)) of.kept;
-          listed = if-some _ of.listed (λ batch h. ap (λ (one : Option Slot). is_listed new.listing one batch) same ∙ both.1 batch h);
-        };
+        record { kept = subst (IsKept life) (sym (ap (kept_by new.tracks) same ∙ both.0)) of.kept; listed = if-some _ of.listed (λ batch h. ap (λ (one : Option Slot). is_listed new.listing one batch) same ∙ both.1 batch h) };
   }
     where
       by : (other : List ℕ) → bytes_eq serial other ≡ false → (one : Option Slot) → lookup (bytes_eq other) old.slots ≡ one

@@ -1,10 +1,10 @@
 -- What a recall and a withdrawal do: their effects, the tables that find the first, and the packs on which they bear, which are worked out
 -- again, also without need.
-use Rattle.mv_repository.proofs.Words.{FirstStops, ap, subst, made_batch, option_and_then, AreFirstsOf, AreStopsOf, BatchKey, Bool, HasFirst, IfSome, IsShelfOf, Item, List, LogEntry, Option, Own, PackKey, Placed, ShelfTable, Some, Stop, Stops, [], arith, batch_key, bytes_eq, comes_first, common_steps, effect_after, effect_of, entries_before, false, find, first_stops, first_upload, get_or, is_master, is_recall_of, is_same_batch, is_status_of, is_stop, is_upload_of, is_withdrawal_of, lasting_effect, length, life_of, list_any, lookup, may_stop, nat_tests, next_by, no_entry, not, option_map, ordered, pack_key, place_of, recalled_in, rules, same_text, stopped_product, sym, take, true, true≢false, withdrawn_in, ℕ, ◌+◌, ◌∙◌, ◌∷◌, ◌≡◌, None, refl, Slot, Made, stops_in, IsAgain, IsPackOf, IsRefreshed, AreShelfOf, shelf_by, kept_by, no_shelf, nothing_kept, IsKept, Kept, statuses_of}
+use Rattle.mv_repository.proofs.Words.{FirstStops, ListingTable, is_listed, lists, ap, subst, made_batch, option_and_then, AreFirstsOf, AreStopsOf, BatchKey, Bool, HasFirst, IfSome, IsShelfOf, Item, List, LogEntry, Option, Own, PackKey, Placed, ShelfTable, Some, Stop, Stops, [], arith, batch_key, bytes_eq, comes_first, common_steps, effect_after, effect_of, entries_before, false, find, first_stops, first_upload, get_or, is_master, is_recall_of, is_same_batch, is_status_of, is_stop, is_upload_of, is_withdrawal_of, lasting_effect, length, life_of, list_any, lookup, may_stop, nat_tests, next_by, no_entry, not, option_map, ordered, pack_key, place_of, recalled_in, rules, same_text, stopped_product, sym, take, true, true≢false, withdrawn_in, ℕ, ◌+◌, ◌∙◌, ◌∷◌, ◌≡◌, None, refl, Slot, Made, stops_in, IsAgain, IsPackOf, IsRefreshed, AreShelfOf, shelf_by, kept_by, no_shelf, nothing_kept, IsKept, Kept, statuses_of}
 use Rattle.mv_repository.proofs.BeforeLemmas.{any-before}
 use Rattle.mv_repository.proofs.KeptLemmas.{life_batch, same_batch, batch-self, text-self}
 use Rattle.mv_repository.proofs.OrderLemmas.{ordered-ascends, ordered-below}
-use Rattle.mv_repository.proofs.StoppedLemmas.{once-all, one-recall, one-withdrawal}
+use Rattle.mv_repository.proofs.StoppedLemmas.{key_stays, once-all, one-recall, one-withdrawal}
 use Rattle.mv_repository.proofs.TableLemmas.{NamesNone, NoPack, at-newest, filter-none, find-later, find-none, find-some, longer, newest, recalls-stay, withdrawals-stay, log-split}
 use Rattle.mv_repository.proofs.SerialLemmas.{AreSamePacks, serials-at}
 use Rattle.mv_repository.proofs.UploadedLemmas.{first-effect}
@@ -85,6 +85,17 @@ elsewhere log entry pack names withdrawal recall = let first = find-none (λ pla
         ∙ next-same (first_stops (ordered (longer log entry))) (first_stops (ordered log)) pack.gtin (first_upload pack (ordered log)) by x (find-none (λ placed. is_withdrawal_of pack.gtin placed.entry.item) log entry withdrawal)
         (λ batch e. find-none (λ placed. is_recall_of (batch_key pack.gtin batch) placed.entry.item) log entry (subst (λ (o : Option (List ℕ)). IfSome o (λ batch. is_recall_of (batch_key pack.gtin batch) entry.item ≡ false)) e recall))
 
+-- what is said of each batch is said of that of a pack
+if-any : {P : List ℕ → Type 0} → (made : Option (List ℕ)) → ((batch : List ℕ) → P batch) → IfSome made P
+if-any None h = tt
+if-any (Some batch) h = h batch
+
+other-product : (one : BatchKey) (gtin batch : List ℕ) → bytes_eq one.gtin gtin ≡ false → is_same_batch one (batch_key gtin batch) ≡ false
+other-product one gtin batch n = grind (arith, nat_tests)
+
+other-listed : (listing : ListingTable) (one : BatchKey) (batch : List ℕ) (number : ℕ) → lists listing one.batch number ≡ false → lists listing batch number ≡ true → is_same_batch one (batch_key one.gtin batch) ≡ false
+other-listed listing one batch number none has = grind (arith, nat_tests, same_text one.batch batch)
+
 -- the newest entry, by its place
 module _ (whole : List LogEntry) (place : ℕ) (l : length whole ≡ place + 1) where
   abbrev log : List LogEntry
@@ -109,26 +120,27 @@ module _ (whole : List LogEntry) (place : ℕ) (l : length whole ≡ place + 1) 
       → HasFirst is_same_batch whole place key tables.recalls.entries recalls → AreFirsts whole recalls tables.withdrawals.entries
   recall-added tables key recalls are own = let form = recall-form key entry.item own in
       at-newest whole place l (λ w n. HasFirst is_same_batch w n key tables.recalls.entries recalls → AreFirsts w recalls tables.withdrawals.entries)
-      (λ has. (
-        firsts-more is_same_batch is_recall_of recalled_in log entry tables.recalls.entries key (same_batch key) (batch-self key) are.recalls form.0 recalls (one-recall key entry.item own) has,
-        withdrawals-stay log entry tables.withdrawals.entries form.1 are.withdrawals,
-      ))
+      (λ has. (firsts-more is_same_batch is_recall_of recalled_in log entry tables.recalls.entries key (same_batch key) (batch-self key) are.recalls form.0 recalls (one-recall key entry.item own) has, withdrawals-stay log entry tables.withdrawals.entries form.1 are.withdrawals))
 
   pub withdrawal-added : (tables : Stops) (key : List ℕ) (withdrawals : List (List ℕ × ℕ)) → AreStopsOf log tables → is_withdrawal_of key entry.item ≡ true
       → HasFirst bytes_eq whole place key tables.withdrawals.entries withdrawals → AreFirsts whole tables.recalls.entries withdrawals
   withdrawal-added tables key withdrawals are own = let form = withdrawal-form key entry.item own in
       at-newest whole place l (λ w n. HasFirst bytes_eq w n key tables.withdrawals.entries withdrawals → AreFirsts w tables.recalls.entries withdrawals)
-      (λ has. (
-        recalls-stay log entry tables.recalls.entries form.1 are.recalls,
-        firsts-more bytes_eq is_withdrawal_of withdrawn_in log entry tables.withdrawals.entries key (λ other h. same_text key other (sym h)) (text-self key) are.withdrawals form.0 withdrawals (one-withdrawal key entry.item own) has,
-      ))
+      (λ has. (recalls-stay log entry tables.recalls.entries form.1 are.recalls, firsts-more bytes_eq is_withdrawal_of withdrawn_in log entry tables.withdrawals.entries key (λ other h. same_text key other (sym h)) (text-self key) are.withdrawals form.0 withdrawals (one-withdrawal key entry.item own) has))
+
+  -- where it is not the first of its kind the tables stay
+  pub stops-stand : (tables : Stops) (stop : Stop) → AreStopsOf log tables → is_stop stop entry.item ≡ true → comes_first whole place (first_place stop tables) ≡ false → AreStopsOf whole tables
+  stops-stand tables (stops.OfBatch batch) are own later =
+      let both = recall-added tables batch.now tables.recalls.entries are own (record { places = λ other. grind (arith, nat_tests, later); keys = key_stays is_same_batch whole place tables.recalls.entries batch.now later }) in record { recalls = both.0; withdrawals = both.1 }
+  stops-stand tables (stops.OfProduct gtin) are own later =
+      let both = withdrawal-added tables gtin.now tables.withdrawals.entries are own (record { places = λ other. grind (arith, nat_tests, later); keys = key_stays bytes_eq whole place tables.withdrawals.entries gtin.now later }) in record { recalls = both.0; withdrawals = both.1 }
 
   -- it bears on no pack of another product
   life-away : (stop : Stop) → is_stop stop entry.item ≡ true → (pack : PackKey) → bytes_eq (stopped_product stop) pack.gtin ≡ false → life_of pack whole ≡ life_of pack log
   life-away (stops.OfBatch batch) own pack n = let form = recall-form batch.now entry.item own in
-      at-newest whole place l (λ w n. life_of pack w ≡ life_of pack log) (elsewhere log entry pack (form.2.0 pack) (form.1 pack.gtin) (search rules))
+      at-newest whole place l (λ w n. life_of pack w ≡ life_of pack log) (elsewhere log entry pack (form.2.0 pack) (form.1 pack.gtin) (if-any (life_batch (life_of pack log)) (λ other. form.0 (batch_key pack.gtin other) ∙ other-product batch.now pack.gtin other n)))
   life-away (stops.OfProduct gtin) own pack n = let form = withdrawal-form gtin.now entry.item own in
-      at-newest whole place l (λ w n. life_of pack w ≡ life_of pack log) (elsewhere log entry pack (form.2.0 pack) (form.0 pack.gtin ∙ n) (search rules))
+      at-newest whole place l (λ w n. life_of pack w ≡ life_of pack log) (elsewhere log entry pack (form.2.0 pack) (form.0 pack.gtin ∙ n) (if-any (life_batch (life_of pack log)) (λ other. form.1 (batch_key pack.gtin other))))
 
   pub stop-away : (stop : Stop) → is_stop stop entry.item ≡ true → (gtin : List ℕ) → bytes_eq (stopped_product stop) gtin ≡ false → AreSamePacks whole log gtin
   stop-away stop own gtin n = (λ serial. life-away stop own (pack_key gtin serial) n, serials-at whole place gtin [] l ((stop-form stop entry.item own).0.2 gtin))
@@ -140,7 +152,11 @@ module _ (whole : List LogEntry) (place : ℕ) (l : length whole ≡ place + 1) 
   stop-passes (stops.OfBatch batch) own shelf of serial number found none = let pack = pack_key batch.now.gtin serial in
       let form = recall-form batch.now entry.item own in
       let listed = (of.packs serial).listed in
-      at-newest whole place l (λ w n. life_of pack w ≡ life_of pack log) (elsewhere log entry pack (form.2.0 pack) (form.1 batch.now.gtin) (search rules))
+      at-newest whole place l (λ w n. life_of pack w ≡ life_of pack log) (elsewhere log entry pack (form.2.0 pack) (form.1 batch.now.gtin) (not-of (life_batch (life_of pack log)) (subst (λ (slot : Option Slot). IfSome (life_batch (life_of pack log)) (λ other. is_listed shelf.listing slot other ≡ true)) found listed)))
+    where
+      not-of : (made : Option (List ℕ)) → IfSome made (λ other. lists shelf.listing other number ≡ true) → IfSome made (λ other. is_recall_of (batch_key batch.now.gtin other) entry.item ≡ false)
+      not-of None h = tt
+      not-of (Some other) h = (recall-form batch.now entry.item own).0 (batch_key batch.now.gtin other) ∙ other-listed shelf.listing batch.now other number none h
   stop-passes (stops.OfProduct gtin) own shelf of serial number found none = absurd (true≢false none)
 
 module _ (whole : List LogEntry) (place : ℕ) (tables : Stops) (gtin : List ℕ) (l : length whole ≡ place + 1) (stops : AreStopsOf whole tables)
@@ -182,14 +198,8 @@ module _ (whole : List LogEntry) (place : ℕ) (tables : Stops) (gtin : List ℕ
           grind (arith, nat_tests)
 
       pack : (serial : List ℕ) → IsPackOf (life_of (pack_key gtin serial) whole) (record shelf { tracks = tracks }) serial
-      pack serial = record {
-        kept = by serial (lookup (bytes_eq serial) shelf.slots) refl (of.packs serial).kept;
-        listed = grind (arith, first-stays serial, (of.packs serial).listed);
-      }
+      pack serial = record { kept = by serial (lookup (bytes_eq serial) shelf.slots) refl (of.packs serial).kept; listed = grind (arith, first-stays serial, (of.packs serial).listed) }
 
   -- a product with no shelf has no pack
   pub shelf-empty : AreShelfOf front gtin no_shelf → AreShelfOf whole gtin no_shelf
-  shelf-empty of = record {
-    slots = record { hashes = refl; named = tt; distinct = of.slots.distinct };
-    shelf = shelf-again (λ number. true) (shelf_by front no_shelf) [] (λ number. none-again None) (λ serial number e h. absurd (true≢false h)) of.shelf;
-  }
+  shelf-empty of = record { slots = record { hashes = refl; named = tt; distinct = of.slots.distinct }; shelf = shelf-again (λ number. true) (shelf_by front no_shelf) [] (λ number. none-again None) (λ serial number e h. absurd (true≢false h)) of.shelf }

@@ -1,5 +1,5 @@
 -- The batches that are recalled and the products that are withdrawn, after one more entry; and what stands in a table of keys.
-use Rattle.mv_repository.proofs.Words.{◌≡◌, ◌∷◌, ◌++◌, ℕ, List, [], refl, sym, ◌∙◌, ap, Bool, true, false, fold, true≢false, same_text, flat_map, lookup, keys_of, flat_map-append, fold-append, append-nil, Some, is_some-lookup, insert_entry, insert_key, keys_insert_entry, BatchKey, Recall, Withdraw, Item, Carried, LogEntry, recalled_in, is_recall_of, is_withdrawal_of, withdrawn_in, insert_all, comes_first, arith, nat_tests}
+use Rattle.mv_repository.proofs.Words.{HasFirst, cond, ◌≡◌, ◌∷◌, ◌++◌, ℕ, List, [], refl, sym, ◌∙◌, ap, Bool, true, false, fold, true≢false, same_text, flat_map, lookup, keys_of, flat_map-append, fold-append, append-nil, Some, is_some-lookup, insert_entry, insert_key, keys_insert_entry, BatchKey, Recall, Withdraw, Item, Carried, LogEntry, recalled_in, is_recall_of, is_withdrawal_of, withdrawn_in, insert_all, comes_first, arith, nat_tests}
 use Rattle.mv_repository.proofs.KeptLemmas.{same_batch, batch-self, text-self}
 
 module _ {K : Type 0} (same : K → K → Bool) (keys_in : LogEntry → List K) (log : List LogEntry) (entry : LogEntry) where
@@ -39,3 +39,8 @@ key_there same entries key value e = grind (arith, nat_tests, is_some-lookup (sa
 pub key_added : {K X : Type 0} (same : K → K → Bool) (entries : List (K × X)) (key : K) (value : X)
     → keys_of (insert_entry same entries key value) ≡ insert_key same (keys_of entries) key
 key_added same entries key value = keys_insert_entry same entries key value
+
+-- so the first of a kind is put in
+pub first-added : {K : Type 0} (same : K → K → Bool) (log : List LogEntry) (new : ℕ) (key : K) (before after : List (K × ℕ)) → comes_first log new (lookup (same key) before) ≡ true
+    → ((other : K) → lookup (same other) after ≡ cond (same key other) (Some new) (lookup (same other) before)) → after ≡ insert_entry same before key new → HasFirst same log new key before after
+first-added same log new key before after first looks e = record { places = λ other. grind (arith, nat_tests, looks other); keys = ap keys_of e ∙ key_added same before key new }

@@ -1,5 +1,5 @@
 -- What is kept of a pack, and worked out by places in a log, is what the log means; and where a status goes.
-use Rattle.mv_repository.proofs.Words.{AllByRecursion, AreBlocks, AreStopsOf, Ascends, BatchKey, BatchStanding, Block, Carried, Effect, FirstStops, IfSome, IsCovered, IsKept, IsTrack, Item, Kept, KnownPack, List, LogEntry, None, Option, PackKey, PartySet, Placed, Some, Status, Stops, [], ap, arith, batch_key, batch_standing, change_effect, cond, cond_both, drop, drop-map, effect_after, effect_from, effect_of, effect_on, entries_before, entry_at, false, filter, first_stops, first_upload, fold, get_or, get_or-insert_at, insert, is_active, is_done, is_master, is_same_pack, is_status_of, is_upload_of, known_pack, length, length-map, length-take-le, life_of, map, message_in, nat_tests, next_by, next_place, no_entry, option_map, option_map_or, ordered, pack_grown, place_of, refl, rules, standing_at, statuses_of, stops_in, subst, sym, take, take-map, take_at, kept_of, true, true≢false, without, uploaded_in, ℕ, ◌+◌, ◌<◌, ◌∙◌, ◌∷◌, ◌≡◌, ◌≤◌, zero, suc, not, Bool, passes, stands_before, IsPartitionedBy, IsPartitionPoint, standing_of}
+use Rattle.mv_repository.proofs.Words.{AllByRecursion, AreBlocks, AreStopsOf, Ascends, BatchKey, BatchStanding, Block, Carried, Effect, FirstStops, IfSome, IsCovered, IsKept, IsTrack, Item, Kept, KnownPack, List, LogEntry, None, Option, PackKey, PartySet, Placed, Some, Status, Stops, [], ap, arith, batch_key, batch_standing, change_effect, cond, cond_both, drop, drop-map, effect_after, effect_from, effect_of, effect_on, entries_before, entry_at, false, filter, first_stops, first_upload, fold, get_or, get_or-insert_at, insert, is_active, is_done, is_master, is_same_pack, is_status_of, is_upload_of, known_pack, length, length-map, length-take-le, life_of, map, message_in, nat_tests, next_by, next_place, no_entry, option_map, option_map_or, ordered, pack_grown, place_of, refl, rules, standing_at, statuses_of, stops_in, subst, sym, take, take-map, take_at, kept_of, true, true≢false, without, uploaded_in, ℕ, ◌+◌, ◌<◌, ◌∙◌, ◌∷◌, ◌≡◌, ◌≤◌, zero, suc, not, Bool, passes, stands_before, IsPartitionPoint, standing_of}
 use Rattle.mv_repository.proofs.OrderLemmas.{ordered-ascends, ordered-below, ordered-stand, Stand, still-stand, StandsBeforeAll}
 use Rattle.mv_repository.proofs.BlockLemmas.{without-insert}
 use mathlib.Core.Path.{transport}
@@ -14,20 +14,18 @@ before_get log x [] i d h l = absurd (omega arith)
 before_get log x (j ∷ js) zero d h l = h.0
 before_get log x (j ∷ js) (suc i) d h l = before_get log x js i d h.1 (omega arith)
 
-pub not_twice : (b c : Bool) → not b ≡ c → b ≡ not c
-not_twice b c e = grind (arith, nat_tests)
-
 module _ (log : List LogEntry) (new : ℕ) where
   -- the newest does not pass the entry at a place
-  abbrev pub stays_at : ℕ → Bool
+  abbrev stays_at : ℕ → Bool
   stays_at place = not (passes (entry_at log new) (entry_at log place))
 
   -- what passes one passes all from there on
-  pub parted : (places : List ℕ) → Ascends (map (entry_at log) places) → IsPartitionedBy stays_at places
-  parted [] a i j d h l e = absurd (omega arith)
-  parted (p ∷ ps) a zero zero d h l e = e
-  parted (p ∷ ps) a zero (suc j) d h l e = grind (arith, nat_tests, before_get log (entry_at log p) ps j d a.0)
-  parted (p ∷ ps) a (suc i) j d h l e = grind (arith, nat_tests, parted ps a.1 i)
+  pub parted : (places : List ℕ) → Ascends (map (entry_at log) places) → (i j d e : ℕ) → i ≤ j → j < length places
+      → passes (entry_at log new) (entry_at log (get_or places i d)) ≡ true → passes (entry_at log new) (entry_at log (get_or places j e)) ≡ true
+  parted [] a i j d e h l p = absurd (omega arith)
+  parted (p ∷ ps) a zero zero d e h l is = is
+  parted (p ∷ ps) a zero (suc j) d e h l is = grind (arith, nat_tests, before_get log (entry_at log p) ps j e a.0)
+  parted (p ∷ ps) a (suc i) j d e h l is = grind (arith, nat_tests, parted ps a.1 i)
 
   -- those places whose entries the newest does not pass
   abbrev pub places_before : List ℕ → List ℕ
@@ -130,10 +128,7 @@ module _ (whole log : List LogEntry) (tables : Stops) (pack : PackKey) (stand : 
       ∙ blocks-same (first_upload pack (ordered log)) there kept.blocks
 
   pub track-worked : (kept : Kept) → IsKept (life_of pack log) kept → IsTrack whole (stops_in whole tables) pack.gtin kept
-  track-worked kept k = record {
-    by = grind (arith, by-same (first_upload pack (ordered log)) there);
-    blocks = transport (sym (kept-same kept (ap (λ (one : Kept). one.birth) k.bare) (ap (λ (one : Kept). one.statuses) k.bare))) k.blocks;
-  }
+  track-worked kept k = record { by = grind (arith, by-same (first_upload pack (ordered log)) there); blocks = transport (sym (kept-same kept (ap (λ (one : Kept). one.birth) k.bare) (ap (λ (one : Kept). one.statuses) k.bare))) k.blocks }
 
   pub track-means : (kept : Kept) → kept.birth ≡ option_map place_of (first_upload pack (ordered log)) → kept.statuses ≡ map place_of own
       → IsTrack whole (stops_in whole tables) pack.gtin kept → IsKept (life_of pack log) kept
@@ -183,7 +178,10 @@ module _ (log : List LogEntry) (entry : LogEntry) (pack : PackKey) (xs : List Pl
   effect-front : (birth : Option Placed) → IfSome birth (λ y. get_or whole y.place no_entry ≡ y.entry) → IfSome birth (λ y. y.place < length log)
       → effect_at whole S pack.gtin (option_map place_of birth) (map place_of xs) (length log) ≡ effect (pack_grown S pack (counted x birth) xs)
   effect-front None b l = refl
-  effect-front (Some birth) b l = grind (arith, nat_tests, entry-stands, fold-own whole S pack.gtin birth xs b stand, grown-by, newest-stands)
+  effect-front (Some birth) b l = (λ i. effect_on S pack.gtin (entry-stands whole birth b i) (fold-own whole S pack.gtin birth xs b stand i) (entry-stands whole x (newest-stands log entry) i)) ∙ front birth l
+    where
+      front : (birth : Placed) → birth.place < length log → effect_on S pack.gtin birth (fold (next_by S pack.gtin (Some birth)) birth xs) x ≡ effect (pack_grown S pack (counted x (Some birth)) xs)
+      front birth l = grind (arith, nat_tests, grown-by S pack birth xs)
 
 -- it is what the status does
 pub status-effect : (log : List LogEntry) (entry : LogEntry) (tables : Stops) (pack : PackKey) (front : List ℕ) → AreStopsOf log tables → is_status_of pack entry.item ≡ true
@@ -250,15 +248,7 @@ module _ (whole : List LogEntry) (place : ℕ) (tables : Stops) (pack : PackKey)
       at-newest whole place l (λ w n. at ≤ length old.statuses → IsCutFor w n old.statuses at → own ≡ insert old.statuses at n → IsTrack w (stops_in w tables) pack.gtin (put own by blocks)
       → effect ≡ effect_at w (stops_in w tables) pack.gtin old.birth (take at own) n → IsKept (life_of pack w) (put own by blocks) × (effect ≡ effect_of log entry))
       (λ within cut o worked done.
-      grind (
-        arith,
-        nat_tests,
-        length-take-le,
-        place_cut (longer log entry) (length log) old.statuses at within cut,
-        take_at,
-        status-effect log entry tables pack (take at own) stops is,
-        track-status log entry tables pack (put own by blocks) stops is,
-      ))
+      grind (arith, nat_tests, length-take-le, place_cut (longer log entry) (length log) old.statuses at within cut, take_at, status-effect log entry tables pack (take at own) stops is, track-status log entry tables pack (put own by blocks) stops is))
 
   pub put-known : (birth at by : ℕ) (blocks : List Block) (effect : Effect) (own : List ℕ) → is_status_of pack entry.item ≡ true → at ≤ length old.statuses → IsCutFor whole place old.statuses at
       → own ≡ insert old.statuses at place → old.birth ≡ Some birth → by ≡ fold (onward birth) birth own → AreBlocks (entry_at whole) (onward birth) birth birth blocks own

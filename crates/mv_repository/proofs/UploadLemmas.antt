@@ -53,11 +53,7 @@ is-born : (log : List LogEntry) (entry : LogEntry) (pack : PackKey) → is_uploa
     → IsBorn pack log (longer log entry) (length log)
 is-born log entry pack own s none true = let birth = find-some (λ placed. is_upload_of pack placed.entry.item) log entry own in
     (grind (arith, nat_tests, birth), refl, λ e. refl)
-is-born log entry pack own s none false = (
-  sym (find-some (λ placed. is_upload_of pack placed.entry.item) log entry own),
-  grind (arith, nat_tests, filter-none),
-  λ e. grind (arith, nat_tests, filter-none, find-later (λ placed. is_upload_of pack placed.entry.item) log entry e, first-same log entry none),
-)
+is-born log entry pack own s none false = (sym (find-some (λ placed. is_upload_of pack placed.entry.item) log entry own), grind (arith, nat_tests, filter-none), λ e. grind (arith, nat_tests, filter-none, find-later (λ placed. is_upload_of pack placed.entry.item) log entry e, first-same log entry none))
 
 module _ (whole : List LogEntry) (place : ℕ) (l : length whole ≡ place + 1) (tables : Stops) (gtin : List ℕ) (serials : List (List ℕ))
     (stops : AreStopsOf (take place whole) tables) (upload : IsUploadOf (get_or whole place no_entry).item gtin serials) where

@@ -57,7 +57,7 @@ pub(crate) struct Shelf {
 
 impl Model for Shelf {
     ghost use Rattle.std.specs.Prelude.{◌≡◌, ◌-◌, length, min, vec_capacity};
-    ghost use Rattle.mv_repository.specs.inside.Shelf.{ShelfParts};
+    ghost use Rattle.mv_repository.specs.inside.Shelf.{ShelfParts, listing_of};
 
     ghost Value = { ShelfParts };
 
@@ -65,7 +65,7 @@ impl Model for Shelf {
       table = record { hashes = a.index.hashes; slots = a.slots.items; names = a.names.items };
       room = min a.index.room (vec_capacity a.slots - length a.slots.items);
       tracks = a.tracks.items;
-      listing = a.listing;
+      listing = listing_of a.listing;
     } };
 
     ghost invariant = { λ a. (length a.index.hashes ≡ length a.slots.items) × (length a.names.items ≡ length a.tracks.items) };
@@ -256,8 +256,13 @@ impl Shelf {
         if let Some(Slot::Own(number)) = spot.slot {
             return self.tracks[number as usize].add_status(newest, pack);
         }
-        let (birth, _, _) = self.kept(spot.slot);
-        let mut track = Track::new(alloc, birth);
+        let (birth, _, by) = self.kept(spot.slot);
+        let mut track = Track {
+            birth,
+            statuses: Vec::new(alloc),
+            by,
+            blocks: Vec::new(alloc),
+        };
         let effect = track.add_status(newest, pack)?;
         let number = self.push(newest.log, &pack.serial, track)?;
         self.put(spot, Slot::Own(number));
@@ -273,14 +278,19 @@ impl Shelf {
     {
         let gtin = stop.gtin();
         let tracks = &mut self.tracks;
-        let Some(numbers) = self.listing.of(stop) else {
-            for number in 0..tracks.len() {
-                refresh_track(tracks, newest, gtin, number);
+        if let Stop::OfBatch(key) = *stop
+            && self.listing.is_whole
+        {
+            let Some(numbers) = self.listing.batches.get(&key.batch) else {
+                return;
+            };
+            for listed in numbers.as_slice() {
+                refresh_track(tracks, newest, gtin, *listed as usize);
             }
             return;
-        };
-        for listed in numbers {
-            refresh_track(tracks, newest, gtin, *listed as usize);
+        }
+        for number in 0..tracks.len() {
+            refresh_track(tracks, newest, gtin, number);
         }
     }
 }

@@ -1,15 +1,13 @@
 //! What stops a batch for ever: for each batch the place in the log of its first recall by stamp, and for each product
 //! that of its first withdrawal.
 
-ghost use Rattle.std.specs.Prelude.{◌≡◌, ◌+◌};
-ghost use Rattle.mv_repository.specs.Clauses.{HasFirst, IfOk, OnErr, OnOk, comes_first, entry_at, lookup, standing_at, stopped_product, stops_in};
+ghost use Rattle.std.specs.Prelude.{◌≡◌};
+ghost use Rattle.mv_repository.specs.Clauses.{entry_at, standing_at, stopped_product, stops_in};
 
 use crate::LogEntry;
-use crate::entry::{comes_first, is_before};
+use crate::entry::is_before;
 use indexmap::IndexMap;
 use mv_pack::{BatchKey, Gtin};
-use std::alloc::AllocError;
-use std::hash::Hash;
 
 /// How a batch stands.
 #[derive(Clone, Copy)]
@@ -69,24 +67,4 @@ impl Stops {
             withdrawn: is_before(log, self.withdrawals.get(&batch.gtin).copied(), place),
         }
     }
-}
-
-/// Writes the place of the newest entry into a table where it is the first under its key by stamp; whether it is. Where
-/// memory is refused nothing has changed.
-pub(crate) fn add_first<K: Eq + Hash + Drop>(
-    places: &mut IndexMap<K, u32>,
-    log: &[LogEntry],
-    key: K,
-    place: u32,
-) -> Result<bool, AllocError>
-    ensures first { IfOk result (λ first. first ≡ comes_first log.now place (lookup (K.eq key) places.old.entries)) }
-    ensures ok { OnOk result (HasFirst K.eq log.now place key places.old.entries places.new.entries) }
-    ensures err { OnErr result (places.new.entries ≡ places.old.entries) }
-{
-    let first = places.get(&key).copied();
-    if !comes_first(log, place, first) {
-        return Ok(false);
-    }
-    places.insert(key, place)?;
-    Ok(true)
 }

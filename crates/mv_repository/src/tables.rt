@@ -3,10 +3,10 @@
 ghost use Rattle.std.specs.Prelude.{◌≡◌, ◌+◌};
 ghost use Rattle.mv_repository.specs.Clauses.{AnEntry, AreTablesOf, IfOk, List, OnErr, OnOk, distinct_count, entry_at, filter, is_counted, is_same_pack, is_stop, length, newest_effect, take, kept_of, life_of, true, uploaded_packs};
 
-use crate::entry::{message_at, passes};
+use crate::entry::{comes_first, message_at, passes};
 use crate::shelf::{Counted, Shelf};
 use crate::state::Newest;
-use crate::stops::{Stop, Stops, add_first};
+use crate::stops::{Stop, Stops};
 use crate::{Effect, LogEntry};
 use indexmap::IndexMap;
 use mv_message::Message;
@@ -106,12 +106,19 @@ impl Tables {
         ensures effect { IfOk result (λ effect. effect ≡ newest_effect log.now place) }
         ensures err { OnErr result (AreTablesOf (take place log.now) self.new) }
     {
-        let is_first = match *stop {
-            Stop::OfBatch(batch) => add_first(&mut self.stops.recalls, log, batch.copy(), place),
-            Stop::OfProduct(gtin) => add_first(&mut self.stops.withdrawals, log, *gtin, place),
+        let first = match *stop {
+            Stop::OfBatch(key) => self.stops.recalls.get(key).copied(),
+            Stop::OfProduct(gtin) => self.stops.withdrawals.get(gtin).copied(),
         };
-        if !is_first? {
+        if !comes_first(log, place, first) {
             return Ok(Effect::Noted);
+        }
+        let is_kept = match *stop {
+            Stop::OfBatch(key) => self.stops.recalls.insert(key.copy(), place).is_ok(),
+            Stop::OfProduct(gtin) => self.stops.withdrawals.insert(*gtin, place).is_ok(),
+        };
+        if !is_kept {
+            return Err(AllocError);
         }
         let Some(shelf) = self.shelves.get_mut(stop.gtin()) else {
             return Ok(Effect::Done);

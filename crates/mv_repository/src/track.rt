@@ -2,14 +2,14 @@
 //! which the pack stands behind them. This file knows no other pack.
 
 ghost use Rattle.std.specs.Prelude.{◌≡◌, ◌≤◌};
-ghost use Rattle.mv_repository.specs.Clauses.{AreStopsOf, Ascends, IfOk, IsAgain, IsKept, OnErr, OnOk, [], IsPartitionPoint, newest_effect, entry_at, false, is_status_of, length, life_of, map, not, passes, stops_in, take, true, unwrap_or};
+ghost use Rattle.mv_repository.specs.Clauses.{AreStopsOf, Ascends, IfOk, IsAgain, IsKept, OnErr, OnOk, IsPartitionPoint, newest_effect, entry_at, false, is_status_of, length, life_of, map, not, passes, stops_in, take, true};
 
 use crate::blocks::{Block, put_late};
 use crate::entry::passes;
 use crate::state::{Basis, Newest};
 use crate::{Effect, LogEntry};
 use mv_pack::{Gtin, PackKey};
-use std::alloc::{AllocError, Global};
+use std::alloc::AllocError;
 use std::marker::Model;
 
 /// Where the newest entry goes among statuses in the order of stamps: behind all that it doesn't pass.
@@ -19,11 +19,17 @@ fn place_for(log: &[LogEntry], statuses: &[u32], new: u32) -> usize
     ensures cut { IsPartitionPoint (λ place. passes (entry_at log.now new) (entry_at log.now place) ≡ false)
         (λ place. passes (entry_at log.now new) (entry_at log.now place) ≡ true) statuses.now result }
 {
-    statuses.partition_point(
-        |place: &u32| -> bool
-            ensures { result ≡ not (passes (entry_at log.entry.now new) (entry_at log.entry.now place.now)) }
-        { !passes(log, new, *place) },
-    )
+    let mut low = 0;
+    let mut high = statuses.len();
+    while low < high {
+        let middle = low + (high - low) / 2;
+        if passes(log, new, statuses[middle]) {
+            high = middle;
+        } else {
+            low = middle + 1;
+        }
+    }
+    low
 }
 
 /// What is kept of a pack.
@@ -36,7 +42,7 @@ pub(crate) struct Track {
     /// The place of the entry by which it stands behind all.
     pub by: u32,
     /// What many statuses do, where one came late.
-    blocks: Vec<Block>,
+    pub blocks: Vec<Block>,
 }
 
 impl Model for Track {
@@ -48,18 +54,6 @@ impl Model for Track {
 }
 
 impl Track {
-    /// A track of a pack that has no status.
-    pub fn new(alloc: Global, birth: Option<u32>) -> Track
-        ensures { result ≡ record { birth = birth; statuses = []; by = unwrap_or birth 0; blocks = [] } }
-    {
-        Track {
-            birth,
-            statuses: Vec::new(alloc),
-            by: birth.unwrap_or(0),
-            blocks: Vec::new(alloc),
-        }
-    }
-
     /// Adds a status of the pack, which is the newest entry of the log, and gives its effect where it stands. Where memory
     /// is refused nothing has changed.
     pub fn add_status(&mut self, newest: &Newest<'_>, pack: &PackKey) -> Result<Effect, AllocError>

@@ -3,6 +3,7 @@
 use Rattle.std.specs.Prelude.{◌≡◌, ◌==◌, ◌||◌, ◌<◌, ◌≤◌, if◌then◌else◌}
 use Rattle.mv_index.specs.Hashes.{short_hash}
 use Rattle.mv_pack.specs.Code.{code_pieces}
+use Rattle.mv_repository.specs.declared.listing.Listing.{Listing}
 use Rattle.mv_repository.specs.declared.slots.Spot.{Spot}
 use Rattle.mv_repository.specs.Words.{ℕ, List, [], get_or, Bool, true, false, Option, Some, None, IfSome, bytes_eq, keys_of, lookup, option_and_then, option_map_or, is_some, not, Counted, Active, Every, Slot, Made, Own, list_any, Upload, Item, Carried, LogEntry, insert_key, pack_key, unwrap_or, Stop, OfBatch, OfProduct, length, map, AllByRecursion, IsDistinct}
 use Rattle.mv_repository.specs.inside.Track.{comes_first, made_batch, Kept, Life, life_of, IsKept, IsTrack}
@@ -84,6 +85,9 @@ kept_by tracks (Some (Own number)) = get_or tracks number nothing_kept
 pub record ListingTable : Type 0 where
   pub is_whole : Bool
   pub numbers : List (List ℕ × List ℕ)
+
+abbrev pub listing_of : Listing → ListingTable
+listing_of listing = record { is_whole = listing.is_whole; numbers = map (λ entry. (entry.0, entry.1.keys)) listing.batches.entries }
 
 -- what is kept of the packs of a product
 pub record ShelfTable : Type 0 where

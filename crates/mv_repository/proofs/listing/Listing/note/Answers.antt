@@ -1,5 +1,5 @@
 -- The set of the batch has the number, and all that it had.
-use Rattle.mv_repository.proofs.Words.{◌≡◌, ℕ, Bool, List, ListingTable, HashSet, CivilDate, LogEntry, Message, Upload, IfSome, Option, Some, arith, bytes_eq, cond, entry_at, lists, lookup, made_batch, message_in, nat_tests, option_and_then, rules, same_text, subst, sym, true, unwrap_or, list_any, ◌==◌}
+use Rattle.mv_repository.proofs.Words.{◌≡◌, ℕ, Bool, List, HashSet, CivilDate, LogEntry, Message, Upload, IfSome, Option, Some, arith, bytes_eq, cond, entry_at, lists, lookup, made_batch, message_in, nat_tests, option_and_then, rules, same_text, sym, true, unwrap_or, list_any, ◌==◌}
 use Rattle.mv_repository.proofs.SerialLemmas.{is_in, listed_in, numbers_in}
 use Rattle.mv_repository.proofs.listing.Listing.note.Goals as goal
 
@@ -20,10 +20,9 @@ born-batch : (log : List LogEntry) (birth : Option ℕ) (place : ℕ) (message :
 born-batch log birth place message e f g = search rules
 
 pub returns-clause-added : goal.returns-clause-added
-returns-clause-added c = lists-now c.self.inside.is_whole _ _ c.in-Some-Upload.batch c.insert.new.self c.args.number
+returns-clause-added c = lists-now c.args.self.now.is_whole _ _ c.in-Some-Upload.batch c.insert.new.self c.args.number
     (born-batch c.args.log.now _ _ _ c.in-Some.is (sym c.in-Some-Upload.ensures) c.in-Some-Upload.field-0-is) (search rules) c.in-Ok-insert.ensures.updates.1
 
 pub returns-clause-kept : goal.returns-clause-kept
-returns-clause-kept c batch number h = lists-stay c.self.inside.is_whole c.self.inside.batches.entries _ batch number
-    (stays-in c.self.inside.batches.entries _ _ c.copy.result _ c.new.result c.or_insert.result.now c.insert.new.self c.args.number (c.in-Ok.ensures.update.0 c.insert.new.self).0 (search rules) c.in-Ok.ensures.value c.or_insert.ensures.value c.in-Ok-insert.ensures.updates.0 batch number)
-    (subst (λ (l : ListingTable). lists l batch number ≡ true) (sym c.self.view_is) h)
+returns-clause-kept c batch number h = lists-stay c.args.self.now.is_whole c.args.self.now.batches.entries _ batch number
+    (stays-in c.args.self.now.batches.entries _ _ c.copy.result _ c.new.result c.or_insert.result.now c.insert.new.self c.args.number (c.in-Ok.ensures.update.0 c.insert.new.self).0 (search rules) c.in-Ok.ensures.value c.or_insert.ensures.value c.in-Ok-insert.ensures.updates.0 batch number) h

@@ -1,5 +1,5 @@
 -- The pack has the status, and no other track is touched.
-use Rattle.mv_repository.proofs.Lemmas.{◌≡◌, ◌++◌, ◌∷◌, AreSlots, IfSome, IsChanged, IsKept, IsShelfOf, IsWritten, Kept, List, LogEntry, Option, Own, ShelfTable, Slot, SlotTable, Some, Writes, [], ap, arith, batch-kept, batch-noted, bytes_eq, entry_at, made_batch, on_err, shelf_by, found-own, get_or, get_or_append_left, get_or_push, is-changed, is_listed, keyed, kept_by, kept_in, length, life_batch, life_of, lists, lookup, map_err, nothing_kept, on_map, option_and_then, own-changed, own-kept, own-set, own-there, own-within, refl, shelf-same, shelf-seen, status-others, subst, sym, take, true, written-own, ℕ, ◌∙◌, entry_at, made_batch, ListingTable, length-set, set, set-get_or}
+use Rattle.mv_repository.proofs.Lemmas.{◌≡◌, ◌++◌, ◌∷◌, AreSlots, IfSome, IsChanged, IsKept, IsShelfOf, IsWritten, Kept, List, LogEntry, Option, Own, ShelfTable, Slot, SlotTable, Some, Writes, [], ap, arith, batch-kept, batch-noted, bytes_eq, entry_at, made_batch, on_err, shelf_by, found-own, get_or, get_or_append_left, get_or_push, is-changed, is_listed, keyed, kept_by, kept_in, length, life_batch, life_of, listing_of, lists, lookup, map_err, nothing_kept, on_map, option_and_then, own-changed, own-kept, own-set, own-there, own-within, refl, shelf-same, shelf-seen, status-others, subst, sym, take, true, written-own, ℕ, ◌∙◌, entry_at, made_batch, ListingTable, length-set, set, set-get_or}
 use Rattle.mv_repository.proofs.shelf.Shelf.add_status.Goals.{In-Some-Own}
 use Rattle.mv_repository.proofs.shelf.Shelf.add_status.Goals as goal
 
@@ -15,7 +15,7 @@ module _ (c : In-Some-Own) where
   table = record { hashes = c.self.inside.index.hashes; slots = c.self.inside.slots.items; names = c.self.inside.names.items }
 
   abbrev old : ShelfTable
-  old = record { slots = keyed whole table.names table.slots; tracks = c.self.inside.tracks.items; listing = c.self.inside.listing }
+  old = record { slots = keyed whole table.names table.slots; tracks = c.self.inside.tracks.items; listing = listing_of c.self.inside.listing }
 
   seen : AreSlots whole table × IsShelfOf (take c.args.newest.now.place whole) c.args.pack.now.gtin old
   seen = shelf-seen whole c.args.newest.now.place c.args.pack.now.gtin c.self.view_is c.requires.shelf
@@ -107,7 +107,7 @@ module _ (c : goal.After-put) where
 
 pub add_status-requires-2-clause-kept : goal.add_status-requires-2-clause-kept
 add_status-requires-2-clause-kept c = let slots = c.args.self.now.table in
-    let made : kept_by c.args.self.now.tracks (lookup (bytes_eq c.args.pack.now.serial) (keyed c.args.newest.now.log.now slots.names slots.slots)) ≡ c.new-track.result = grind arith in
+    let made : kept_by c.args.self.now.tracks (lookup (bytes_eq c.args.pack.now.serial) (keyed c.args.newest.now.log.now slots.names slots.slots)) ≡ record { birth = c.kept-birth.result.0; statuses = c.new.result.items; by = c.kept-birth.result.2; blocks = c.new-2.result.items } = grind arith in
     subst (IsKept (life_of c.args.pack.now (take c.args.newest.now.place c.args.newest.now.log.now))) made
     ((shelf-seen c.args.newest.now.log.now c.args.newest.now.place c.args.pack.now.gtin refl c.requires.shelf).1.packs c.args.pack.now.serial).kept
 
@@ -116,8 +116,13 @@ returns-in_err-number-clause-err c = let same = c.in_err-number.ensures.err in
     on_err c.from_residual-in_err-number.result _ (shelf-same _ _ c.args.self.now c.push.new.self (λ i. (same i).table) (λ i. (same i).tracks) (λ i. (same i).listing) c.requires.shelf)
 
 pub returns-clause-ok : goal.returns-clause-ok
-returns-clause-ok c = record {
-  slots = (written c).0;
-  shelf = status-others (log c) c.args.newest.now.place c.args.pack.now c.args.newest.now.last c.requires.own (was c) (new c) (are c).1 (changed c)
-      (record { kept = subst (IsKept (life_of c.args.pack.now (log c))) (sym (now c)) c.in_ok-effect.ensures.ok; listed = listed c });
-}
+returns-clause-ok c = record { slots = (written c).0; shelf = status-others (log c) c.args.newest.now.place c.args.pack.now c.args.newest.now.last c.requires.own (was c) (new c) (are c).1 (changed c) (record { kept = subst (IsKept (life_of c.args.pack.now (log c))) (sym (now c)) c.in_ok-effect.ensures.ok; listed = listed c }) }
+
+pub returns-in-Some-Own-clause-effect : goal.returns-in-Some-Own-clause-effect
+returns-in-Some-Own-clause-effect c = c.add_status.ensures.effect
+
+pub returns-clause-effect : goal.returns-clause-effect
+returns-clause-effect c = c.in_ok-effect.ensures.effect
+
+pub returns-in_err-effect-clause-err : goal.returns-in_err-effect-clause-err
+returns-in_err-effect-clause-err c = on_err c.from_residual.result _ c.requires.shelf

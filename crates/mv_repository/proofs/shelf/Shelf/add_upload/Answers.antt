@@ -1,12 +1,12 @@
 -- One serial number more.
-use Rattle.mv_repository.proofs.Lemmas.{◌≡◌, ◌+◌, ◌∷◌, Some, slice_get, slice_get-get_or, AreSlots, ArePacksOf, IsShelfOf, SlotTable, keyed, shelf-seen, shelf-same, on_err, Kept, List, [], ap, arith, bytes_eq, comes_first, cond, fold, fold-append, get_or, get_or_default, insert_key, kept_in, log-length, log-split, nat_tests, new-more, no_entry, refl, rules, serials-at, serials_of, shelf_by, subst, sym, take, take_all, take_more, text-self, upload-adds, upload-all, upload-names, upload-serials, ℕ, ◌∙◌, common_steps}
+use Rattle.mv_repository.proofs.Lemmas.{◌≡◌, ◌+◌, ◌∷◌, Some, slice_get, slice_get-get_or, AreSlots, ArePacksOf, IsShelfOf, SlotTable, keyed, shelf-seen, shelf-same, on_err, Kept, List, [], ap, arith, bytes_eq, comes_first, cond, fold, fold-append, get_or, get_or_default, insert_key, kept_in, length, listing_of, log-length, log-split, nat_tests, new-more, no_entry, refl, rules, serials-at, serials_of, shelf_by, subst, sym, take, take_all, take_more, text-self, upload-adds, upload-all, upload-names, upload-serials, ℕ, ◌∙◌, common_steps}
 use Rattle.mv_repository.proofs.shelf.Shelf.add_upload.Goals as goal
 
 pub loop-index-init : goal.loop-index-init
 loop-index-init c = let whole = c.args.newest.now.log.now in
     let place = c.args.newest.now.place in
     let hashes = (λ i. (c.touch.ensures i).hashes) ∙ c.reserve.ensures.hashes in
-    let longer = subst (λ (table : SlotTable). AreSlots whole table × IsShelfOf (take place whole) c.args.gtin.now (record { slots = keyed whole table.names table.slots; tracks = c.self.inside.tracks.items; listing = c.self.inside.listing }))
+    let longer = subst (λ (table : SlotTable). AreSlots whole table × IsShelfOf (take place whole) c.args.gtin.now (record { slots = keyed whole table.names table.slots; tracks = c.self.inside.tracks.items; listing = listing_of c.self.inside.listing }))
     (sym (λ i. record { hashes = hashes i; slots = c.reserve-2.ensures.items i; names = c.self.inside.names.items })) (shelf-seen whole place c.args.gtin.now c.self.view_is c.requires.shelf) in
     let room : c.touch.new.self.room ≡ c.reserve.new.self.room = λ i. (c.touch.ensures i).room in
     record { room = grind (arith, common_steps, room); slots = longer.0; packs = longer.1.packs; keys = longer.1.serials; new = refl; least = omega arith }
@@ -61,3 +61,10 @@ returns-in_err-and-clause-err c = on_err c.from_residual.result _ (shelf-same _ 
 
 pub put_upload-is_first-requires-clause-named : goal.put_upload-is_first-requires-clause-named
 put_upload-is_first-requires-clause-named c = ap (λ (l : List (List ℕ)). slice_get l c.loop-index.index) (upload-names _ c.args.gtin.now c.args.serials.now c.requires.upload) ∙ slice_get-get_or c.args.serials.now c.loop-index.index c.index-serials-index.result c.loop-index-test.true ∙ ap Some (sym c.index-serials-index.is)
+
+-- the lists are as long as each other
+pub invariant_of-self : goal.invariant_of-self
+invariant_of-self c = (ap length c.reserve.ensures.hashes ∙ c.self.invariant.0 ∙ sym (ap length c.reserve-2.ensures.items), c.self.invariant.1)
+
+pub invariant_of-self-2 : goal.invariant_of-self-2
+invariant_of-self-2 c = ((λ i. length (c.touch.ensures i).hashes) ∙ ap length c.reserve.ensures.hashes ∙ c.self.invariant.0 ∙ sym (ap length c.reserve-2.ensures.items), c.self.invariant.1)

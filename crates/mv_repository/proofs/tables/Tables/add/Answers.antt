@@ -1,5 +1,5 @@
 -- Each form of entry bears on one table; an upload and a status bear on the shelf of one product.
-use Rattle.mv_repository.proofs.Lemmas.{◌≡◌, IsShelved, rules, get_or, take, no_entry, arith, none-noted, other-noted, few-at, few-more, stops-at, tables-mastered, comes_late, masters-late-at, masters-latest-at, lookup, bytes_eq, false, unwrap_or, ◌∙◌, master-in, shelf-written, upload-in, status-in, sym, tables-follow, tables-noted, refl, IsUploadOf, is_status_of, true, on_both, on_map, map_err, upload-away, upload-form, status-away, status-form, subst, AreShelfOf, shelves-follow, named-upload}
+use Rattle.mv_repository.proofs.Lemmas.{◌≡◌, IsShelved, rules, get_or, take, no_entry, arith, none-noted, other-noted, few-at, few-more, stops-at, tables-mastered, comes_late, masters-late-at, masters-latest-at, lookup, bytes_eq, false, unwrap_or, ◌∙◌, master-in, shelf-written, upload-in, status-in, sym, tables-follow, tables-noted, tables-same, refl, IsUploadOf, is_status_of, true, on_both, on_map, map_err, upload-away, upload-form, status-away, status-form, subst, AreShelfOf, shelves-follow, named-upload}
 use Rattle.mv_repository.proofs.tables.Tables.add.Goals as goal
 
 pub returns-then-matches-clause-ok : goal.returns-then-matches-clause-ok
@@ -28,7 +28,7 @@ module _ (c : goal.After-self-in-Upload-2-1) where
   uploaded = upload-in (get_or c.args.log.now c.args.place no_entry).item c.in-Some.message.now _ _ _ _ _ _ c.in-Some.ensures c.in-Upload.is c.as_slice.ensures
 
   shelved : IsShelved c.args.self.now.shelves.entries c.self-in-Upload-2-1.given.0.entries c.in-Upload.gtin c.add_upload.new.self
-  shelved = shelf-written c.args.self.now.shelves.entries _ _ c.in-Upload.gtin c.add_upload.new.self (c.in-Ok-entry.ensures.update.0 c.add_upload.new.self).0 (search rules)
+  shelved = shelf-written c.args.self.now.shelves.entries _ _ c.in-Upload.gtin c.add_upload.new.self (c.in-Ok-entry.ensures.update.0 c.add_upload.new.self).0 (grind arith)
 
 pub returns-in-Ok-entry-clause-ok : goal.returns-in-Ok-entry-clause-ok
 returns-in-Ok-entry-clause-ok c = let item = (get_or c.args.log.now c.args.place no_entry).item in let form = upload-form item c.in-Upload.gtin c.as_slice.result.now (uploaded c) in
@@ -67,3 +67,19 @@ add_upload-requires-clause-upload c = upload-in (get_or c.args.log.now c.args.pl
 
 pub add_status-requires-clause-own : goal.add_status-requires-clause-own
 add_status-requires-clause-own c = status-in (get_or c.args.log.now c.args.place no_entry).item c.in-Some.message.now _ _ _ _ c.in-Some.ensures c.in-Status.is
+
+-- where memory is refused the tables are those that they were
+pub returns-in_default-entry-clause-err : goal.returns-in_default-entry-clause-err
+returns-in_default-entry-clause-err c = tables-same (take c.args.place c.args.log.now) c.args.self.now _ refl refl refl (search rules) c.requires.tables
+
+pub returns-in_default-entry-2-clause-err : goal.returns-in_default-entry-2-clause-err
+returns-in_default-entry-2-clause-err c = tables-same (take c.args.place c.args.log.now) c.args.self.now _ refl refl refl (search rules) c.requires.tables
+
+pub returns-in-Err-clause-err : goal.returns-in-Err-clause-err
+returns-in-Err-clause-err c = tables-same (take c.args.place c.args.log.now) c.args.self.now _ (search rules) refl refl refl c.requires.tables
+
+pub returns-in-Ok-entry-clause-effect : goal.returns-in-Ok-entry-clause-effect
+returns-in-Ok-entry-clause-effect c = c.add_upload.ensures.effect
+
+pub returns-in-Ok-entry-2-clause-effect : goal.returns-in-Ok-entry-2-clause-effect
+returns-in-Ok-entry-2-clause-effect c = c.add_status.ensures.effect

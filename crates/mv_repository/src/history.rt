@@ -64,19 +64,6 @@ fn is_same_status(one: &Places<'_>, mine: u32, other: &Places<'_>, theirs: u32) 
             == is_before(other.log, other.withdrawal, theirs)
 }
 
-/// Whether two packs have the same statuses, one after another.
-fn have_same_statuses(one: &Places<'_>, other: &Places<'_>) -> bool
-    ensures { IsTrue result ↔ (map (sent_status (history_at one.now)) (history_at one.now).statuses
-        ≡ map (sent_status (history_at other.now)) (history_at other.now).statuses) }
-{
-    for (mine, theirs) in one.statuses.iter().zip(other.statuses) {
-        if !is_same_status(one, *mine, other, *theirs) {
-            return false;
-        }
-    }
-    one.statuses.len() == other.statuses.len()
-}
-
 /// What decides a pack: the first upload that names it, its statuses, the first recall of its batch and the first withdrawal
 /// of its product, the first by stamp. It goes by tables, and looks through no log.
 #[derive(Drop)]
@@ -130,7 +117,10 @@ impl<'a> History<'a> {
     pub fn withdrawal(&self) -> Option<&'a LogEntry>
         ensures { option_copied result ≡ option_map entry_of self.now.withdrawal }
     {
-        self.places.log.get(self.places.withdrawal? as usize)
+        match self.places.withdrawal {
+            Some(place) => self.places.log.get(place as usize),
+            None => None,
+        }
     }
 
     /// Whether two histories are the same: what decides the packs was sent alike, and each status stands alike behind the
@@ -138,10 +128,20 @@ impl<'a> History<'a> {
     pub fn is_same(&self, other: &History<'_>) -> bool
         ensures { IsTrue result ↔ (as_sent self.now ≡ as_sent other.now) }
     {
-        is_same_sent(self.upload(), other.upload())
-            && have_same_statuses(&self.places, &other.places)
-            && is_same_sent(self.recall(), other.recall())
-            && is_same_sent(self.withdrawal(), other.withdrawal())
+        let (own, others) = (&self.places, &other.places);
+        if own.statuses.len() != others.statuses.len()
+            || !is_same_sent(self.upload(), other.upload())
+            || !is_same_sent(self.recall(), other.recall())
+            || !is_same_sent(self.withdrawal(), other.withdrawal())
+        {
+            return false;
+        }
+        for (mine, theirs) in own.statuses.iter().zip(others.statuses) {
+            if !is_same_status(own, *mine, others, *theirs) {
+                return false;
+            }
+        }
+        true
     }
 }
 

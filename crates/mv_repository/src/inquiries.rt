@@ -4,10 +4,10 @@
 //! It stands apart since no other table bears on it: it changes at receipts of queries and at answers alone.
 
 ghost use Rattle.std.specs.Prelude.{◌≡◌, ◌≤◌, ◌∷◌, ◌++◌, ◌<◌};
-ghost use Rattle.mv_repository.specs.Clauses.{AnEntry, IsInquiriesOf, List, OnOk, [], filter, has_reply, inquiry_after, joint_verdict, length, not, query_of, ℕ, Some, map_spare, set_spare};
+ghost use Rattle.mv_repository.specs.Clauses.{AnEntry, IsInquiriesOf, List, OnOk, [], joint_verdict, ℕ, map_spare, set_spare};
 
 use crate::Joint;
-use crate::verdict::{found_active, found_explained, verdict_when};
+use crate::verdict::{findings, verdict_when};
 use indexmap::{IndexMap, IndexSet};
 use mv_link::{Item, Reached};
 use mv_message::{Message, Party};
@@ -23,6 +23,13 @@ pub struct Inquiry {
     /// Whether an answer found the pack recalled, withdrawn, or to be destroyed, which explains it.
     explained: bool,
 }
+
+/// What is known of a query that is not kept.
+const UNKNOWN: Inquiry = Inquiry {
+    asked: None,
+    active: false,
+    explained: false,
+};
 
 /// What a repository knows of the queries of its own party.
 pub struct Inquiries {
@@ -55,22 +62,43 @@ impl Inquiries {
         ensures { (log : List AnEntry) → IsInquiriesOf party log self.old
             → IsInquiriesOf party (log ++ record { sender = sender; item = item.now } ∷ []) self.new }
     {
-        let Some(query) = query_of(party, sender, item) else {
-            return;
-        };
-        let Ok(inquiry) = self.inquiries.entry(query) else {
-            unreachable!();
-        };
-        let unknown = Inquiry {
-            asked: None,
-            active: false,
-            explained: false,
-        };
-        inquiry.or_insert(unknown).note(item);
-        if let Item::Carried { .. } = item {
-            let Ok(_) = self.replies.insert((query, sender)) else {
-                unreachable!();
-            };
+        match item {
+            Item::Receipt {
+                k,
+                reach,
+                query: true,
+            } if sender == party => {
+                let Ok(inquiry) = self.inquiries.entry(*k) else {
+                    unreachable!();
+                };
+                let inquiry = inquiry.or_insert(UNKNOWN);
+                inquiry.asked.get_or_insert(reach.copy());
+            }
+            Item::Carried { message, .. } => {
+                let Message::Answer {
+                    asker,
+                    q,
+                    found,
+                    ..
+                } = message.get()
+                else {
+                    return;
+                };
+                if *asker != party {
+                    return;
+                }
+                let Ok(inquiry) = self.inquiries.entry(*q) else {
+                    unreachable!();
+                };
+                let inquiry = inquiry.or_insert(UNKNOWN);
+                let (active, explained) = findings(found);
+                inquiry.active |= active;
+                inquiry.explained |= explained;
+                let Ok(_) = self.replies.insert((*q, sender)) else {
+                    unreachable!();
+                };
+            }
+            _ => {}
         }
     }
 
@@ -85,57 +113,18 @@ impl Inquiries {
         let Some(asked) = &inquiry.asked else {
             return Joint::NotAsked;
         };
-        let left = self.left_count(q, asked.to_reach().as_slice());
+        let asked = asked.to_reach();
+        let parties = asked.as_slice();
+        let mut left = 0;
+        for other in parties {
+            if !self.replies.contains(&(q, *other)) {
+                left += 1;
+            }
+        }
         if left == 0 {
             Joint::Decided(verdict_when(inquiry.active, inquiry.explained))
         } else {
             Joint::Pending { left }
         }
-    }
-
-    /// How many of these parties have not answered a query.
-    fn left_count(&self, q: u32, asked: &[Party]) -> u32
-        requires { length asked.now ≤ 64 }
-        ensures { result ≡ length (filter (λ other. not (has_reply self.now q other)) asked.now) }
-    {
-        let mut left = 0;
-        for other in asked {
-            if !self.replies.contains(&(q, *other)) {
-                left += 1;
-            }
-        }
-        left
-    }
-}
-
-impl Inquiry {
-    /// Notes an item that tells of the query: the first receipt counts, and each answer.
-    fn note(&mut self, item: &Item)
-        ensures { self.new ≡ inquiry_after item.now self.old }
-    {
-        match item {
-            Item::Receipt { reach, .. } => {
-                self.asked.get_or_insert(reach.copy());
-            }
-            Item::Carried { message, .. } => {
-                if let Message::Answer { found, .. } = message.get() {
-                    self.active = self.active || found_active(found);
-                    self.explained = self.explained || found_explained(found);
-                }
-            }
-        }
-    }
-}
-
-/// The number of the query of the party that an item from a sender tells of: it is the receipt of one, or an answer to one.
-fn query_of(party: Party, sender: Party, item: &Item) -> Option<u32>
-    ensures { result ≡ query_of party sender item.now }
-{
-    match item {
-        Item::Receipt { k, query, .. } => (*query && sender == party).then_some(*k),
-        Item::Carried { message, .. } => match message.get() {
-            Message::Answer { asker, q, .. } => (*asker == party).then_some(*q),
-            _ => None,
-        },
     }
 }

@@ -1,5 +1,5 @@
 -- Lemmas on what a log says of its party's queries.
-use Rattle.mv_repository.proofs.Words.{◌≡◌, ◌∷◌, ◌++◌, ◌&&◌, ◌||◌, ◌==◌, arith, nat_tests, ℕ, List, [], ◌∙◌, ap, Bool, false, cond, Option, Some, None, is_some, length, list_any, option_or, option_map_or, or-false, list_any-append, Answer, Found, Item, Carried, PackKey, Receipt, true, LogEntry, Inquiries, Inquiry, asked_parties, finding_in, has_answered, found_active, found_explained, joint_verdict, sym, lookup, nat_eq, unwrap_or, has_reply, inquiry_of, IsInquiriesOf, query_reach, verdict_when, not, filter, Decided, Pending}
+use Rattle.mv_repository.proofs.Words.{◌≡◌, ◌∷◌, ◌++◌, ◌&&◌, ◌||◌, ◌==◌, arith, nat_tests, ℕ, List, [], ◌∙◌, ap, Bool, false, cond, Option, Some, None, is_some, length, list_any, option_or, option_map_or, or-false, list_any-append, Message, Item, Carried, LogEntry, Inquiries, Inquiry, asked_parties, finding_in, has_answered, found_active, found_explained, joint_verdict, sym, query_of, inquiry_after, lookup, nat_eq, unwrap_or, has_reply, inquiry_of, IsInquiriesOf, query_reach, verdict_when, not, filter, Decided, Pending}
 
 -- what is kept of a query, if only nothing
 abbrev pub inquiry_in : Inquiries → ℕ → Inquiry
@@ -35,27 +35,25 @@ replies-more : (party : ℕ) (log : List LogEntry) (sender : ℕ) (item : Item) 
 replies-more party log sender item q other = grind (arith, nat_tests, any-more)
 
 -- an entry that tells nothing of any query leaves what is known
-pub known_stays : (party : ℕ) (log : List LogEntry) (sender : ℕ) (item : Item) (known : Inquiries)
-    → ((q : ℕ) → (asked_in party sender item q ≡ None) × (finding_in party q item ≡ None))
+pub known_stays : (party : ℕ) (log : List LogEntry) (sender : ℕ) (item : Item) (known : Inquiries) → query_of party sender item ≡ None
     → IsInquiriesOf party log known → IsInquiriesOf party (with_entry log sender item) known
-known_stays party log sender item known nothing is = grind (arith, nat_tests, inquiry-more, or-false, replies-more)
+known_stays party log sender item known none is =
+    let nothing : (q : ℕ) → (asked_in party sender item q ≡ None) × (finding_in party q item ≡ None) = λ q. grind (arith, nat_tests) in
+    grind (arith, nat_tests, inquiry-more, or-false, replies-more)
 
--- an item that tells of a query of the party: its receipt, and an answer to it
-pub receipt_noted : (party : ℕ) (log : List LogEntry) (sender : ℕ) (item : Item) (k : ℕ) (reach : List ℕ) (known known' : Inquiries)
-    → item ≡ Receipt k reach true → sender ≡ party
-    → ((q : ℕ) → inquiry_in known' q ≡ cond (k == q) (record (inquiry_in known q) { asked = option_or (inquiry_in known q).asked (Some reach) }) (inquiry_in known q))
+-- an item that tells of a query: its receipt, and an answer to it
+pub receipt_noted : (party : ℕ) (log : List LogEntry) (sender : ℕ) (item : Item) (asked : ℕ) (known known' : Inquiries)
+    → ((k stamp : ℕ) (message : Message) → item ≡ Carried k stamp message → ⊥) → query_of party sender item ≡ Some asked
+    → ((q : ℕ) → inquiry_in known' q ≡ cond (asked == q) (inquiry_after item (inquiry_in known q)) (inquiry_in known q))
     → ((q other : ℕ) → has_reply known' q other ≡ has_reply known q other) → IsInquiriesOf party log known → IsInquiriesOf party (with_entry log sender item) known'
-receipt_noted party log sender item k reach known known' form own inquiries replies is = grind (arith, nat_tests, inquiry-more, replies-more)
+receipt_noted party log sender item asked known known' form told inquiries replies is = grind (arith, nat_tests, inquiry-more, replies-more)
 
-pub answer_noted : (party : ℕ) (log : List LogEntry) (sender : ℕ) (item : Item) (k stamp asker asked : ℕ) (key : PackKey) (found : Found) (known known' : Inquiries)
-    → item ≡ Carried k stamp (Answer asker asked key found) → asker ≡ party
-    → ((q : ℕ) → inquiry_in known' q ≡ cond (asked == q) (record (inquiry_in known q) {
-      active = (inquiry_in known q).active || found_active found;
-      explained = (inquiry_in known q).explained || found_explained found;
-    }) (inquiry_in known q))
+pub answer_noted : (party : ℕ) (log : List LogEntry) (sender : ℕ) (item : Item) (asked : ℕ) (known known' : Inquiries) (k stamp : ℕ) (message : Message)
+    → item ≡ Carried k stamp message → query_of party sender item ≡ Some asked
+    → ((q : ℕ) → inquiry_in known' q ≡ cond (asked == q) (inquiry_after item (inquiry_in known q)) (inquiry_in known q))
     → ((q other : ℕ) → has_reply known' q other ≡ (((asked == q) && (sender == other)) || has_reply known q other))
     → IsInquiriesOf party log known → IsInquiriesOf party (with_entry log sender item) known'
-answer_noted party log sender item k stamp asker asked key found known known' form own inquiries replies is = grind (arith, nat_tests, inquiry-more, replies-more)
+answer_noted party log sender item asked known known' k stamp message form told inquiries replies is = grind (arith, nat_tests, inquiry-more, replies-more)
 
 -- what is known decides the verdict, by how many have not answered
 pub verdict_known : (party : ℕ) (log : List LogEntry) (known : Inquiries) (q : ℕ) (inquiry : Inquiry) (parties : List ℕ) (left : ℕ) → IsInquiriesOf party log known

@@ -13,7 +13,7 @@ pub use Rattle.mv_repository.specs.Order.{Ascends, IsOrderOf, Placed, ordered, p
 pub use Rattle.mv_repository.specs.Pack.{ChangeNamesStatus, KnownPack, NamesStatus, batch_standing, change_effect, effect_after, effect_of, entries_before, has_pack, held_of, is_active, is_done, is_recall_of, is_recalled_by, is_withdrawal_of, is_withdrawn_by, known_pack, known_pack_from, lasting_effect, pack_after_item, pack_state}
 pub use Rattle.mv_repository.specs.Repository.{items_from, mastered_in, product_of, product_under, recalled_in, serials_in, serials_of, uploaded_in, uploaded_packs}
 pub use Rattle.mv_repository.specs.Verdict.{asked_parties, finding_in, found_active, found_explained, has_answered, joint_verdict, query_reach, verdict_when}
-pub use Rattle.mv_repository.specs.Words.{Active, Answer, BatchStanding, Block, Carried, Counted, Decided, Effect, Found, Held, Item, LogEntry, Made, Master, Message, Own, PARTIES_LIMIT, PartySet, Pending, Product, Recall, Receipt, Slot, Standing, Status, Stop, Stops, Upload, Withdraw, bytes_eq, insert_all, insert_key, keys_of, lookup, option_and_then, option_map, option_map_or, option_or, slice_get, unwrap_or}
+pub use Rattle.mv_repository.specs.Words.{Active, BatchStanding, Block, Carried, Counted, Decided, Effect, Held, Item, LogEntry, Made, Master, Message, Own, PARTIES_LIMIT, PartySet, Pending, Product, Recall, Receipt, Slot, Standing, Status, Stop, Stops, Upload, Withdraw, bytes_eq, insert_all, insert_key, keys_of, lookup, option_and_then, option_map, option_map_or, option_or, slice_get, unwrap_or}
 pub use Rattle.mv_repository.specs.declared.blocks.Cut.{Cut}
 pub use Rattle.mv_repository.specs.declared.blocks.TheConstants.{BLOCK}
 pub use Rattle.mv_repository.specs.declared.history.Places.{Places}
@@ -21,7 +21,7 @@ pub use Rattle.mv_repository.specs.declared.inquiries.Inquiries.{Inquiries}
 pub use Rattle.mv_repository.specs.declared.inquiries.Inquiry.{Inquiry}
 pub use Rattle.mv_repository.specs.declared.tables.Tables.{Tables}
 pub use Rattle.mv_repository.specs.inside.Shelf.{AreShelfOf, AreSlots, IsEntered, IsNamed, IsSpot, IsWritten, SlotTable, Writes, keyed, no_slot, serial_hash, serial_of, serials_uploaded, IsAgain, IsChanged, IsPackOf, IsPut, IsRefreshed, IsShelfOf, IsUploadOf, ListingTable, ShelfParts, ShelfTable, is_counted, is_listed, kept_by, kept_in, lists, may_stop, no_shelf, nothing_kept, shelf_by, shelf_of}
-pub use Rattle.mv_repository.specs.inside.Tables.{AreTablesOf, IsInquiriesOf, has_reply, inquiry_of, is_master}
+pub use Rattle.mv_repository.specs.inside.Tables.{AreTablesOf, IsInquiriesOf, has_reply, inquiry_after, inquiry_of, is_master, query_of}
 pub use Rattle.mv_repository.specs.inside.Track.{AreAt, AreBlocks, AreFirstsOf, AreStopsOf, HasFirst, IsCovered, IsCut, IsFront, IsKept, IsSummary, IsTrack, Kept, Life, change_in, comes_first, effect_from, effect_in, effect_on, history_at, is_stop, known_at, life_of, made_batch, next_by, next_in, next_place, place_of, stopped_product, stops_in, kept_of, without, standing_of}
 pub use Rattle.std.proofs.Common.{Bool, IfSome, List, None, OnErr, OnOk, Option, Result, Some, [], ap, append-nil, append_assoc, arith, cond, drop, false, filter, find, fold, get_or, get_or-set_other, inl, inr, insert, is_some, length, length-append, map, min, nat_eq, nat_lt, not, refl, rules, set, subst, suc, sym, take, true, true≢false, zero, ℕ, ◌∙◌}
 pub use Rattle.std.proofs.Math.Bool.{or-false, or-true}

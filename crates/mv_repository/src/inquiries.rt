@@ -4,7 +4,7 @@
 //! It stands apart since no other table bears on it: it changes at receipts of queries and at answers alone.
 
 ghost use Rattle.std.specs.Prelude.{◌≡◌, ◌≤◌, ◌∷◌, ◌++◌, ◌<◌};
-ghost use Rattle.mv_repository.specs.Clauses.{AnEntry, IsInquiriesOf, List, OnOk, [], joint_verdict, ℕ, map_spare, set_spare};
+ghost use Rattle.mv_repository.specs.Clauses.{AnEntry, IsInquiriesOf, List, OnOk, [], inquiry_after, joint_verdict, query_of, ℕ, map_spare, set_spare};
 
 use crate::Joint;
 use crate::verdict::{findings, verdict_when};
@@ -23,13 +23,6 @@ pub struct Inquiry {
     /// Whether an answer found the pack recalled, withdrawn, or to be destroyed, which explains it.
     explained: bool,
 }
-
-/// What is known of a query that is not kept.
-const UNKNOWN: Inquiry = Inquiry {
-    asked: None,
-    active: false,
-    explained: false,
-};
 
 /// What a repository knows of the queries of its own party.
 pub struct Inquiries {
@@ -62,43 +55,22 @@ impl Inquiries {
         ensures { (log : List AnEntry) → IsInquiriesOf party log self.old
             → IsInquiriesOf party (log ++ record { sender = sender; item = item.now } ∷ []) self.new }
     {
-        match item {
-            Item::Receipt {
-                k,
-                reach,
-                query: true,
-            } if sender == party => {
-                let Ok(inquiry) = self.inquiries.entry(*k) else {
-                    unreachable!();
-                };
-                let inquiry = inquiry.or_insert(UNKNOWN);
-                inquiry.asked.get_or_insert(reach.copy());
-            }
-            Item::Carried { message, .. } => {
-                let Message::Answer {
-                    asker,
-                    q,
-                    found,
-                    ..
-                } = message.get()
-                else {
-                    return;
-                };
-                if *asker != party {
-                    return;
-                }
-                let Ok(inquiry) = self.inquiries.entry(*q) else {
-                    unreachable!();
-                };
-                let inquiry = inquiry.or_insert(UNKNOWN);
-                let (active, explained) = findings(found);
-                inquiry.active |= active;
-                inquiry.explained |= explained;
-                let Ok(_) = self.replies.insert((*q, sender)) else {
-                    unreachable!();
-                };
-            }
-            _ => {}
+        let Some(query) = query_of(party, sender, item) else {
+            return;
+        };
+        let Ok(inquiry) = self.inquiries.entry(query) else {
+            unreachable!();
+        };
+        let unknown = Inquiry {
+            asked: None,
+            active: false,
+            explained: false,
+        };
+        inquiry.or_insert(unknown).note(item);
+        if let Item::Carried { .. } = item {
+            let Ok(_) = self.replies.insert((query, sender)) else {
+                unreachable!();
+            };
         }
     }
 
@@ -117,14 +89,45 @@ impl Inquiries {
         let parties = asked.as_slice();
         let mut left = 0;
         for other in parties {
-            if !self.replies.contains(&(q, *other)) {
-                left += 1;
-            }
+            left += !self.replies.contains(&(q, *other)) as u32;
         }
         if left == 0 {
             Joint::Decided(verdict_when(inquiry.active, inquiry.explained))
         } else {
             Joint::Pending { left }
         }
+    }
+}
+
+impl Inquiry {
+    /// Notes an item that tells of the query: the first receipt counts, and each answer.
+    fn note(&mut self, item: &Item)
+        ensures { self.new ≡ inquiry_after item.now self.old }
+    {
+        match item {
+            Item::Receipt { reach, .. } => {
+                self.asked.get_or_insert(reach.copy());
+            }
+            Item::Carried { message, .. } => {
+                if let Message::Answer { found, .. } = message.get() {
+                    let (active, explained) = findings(found);
+                    self.active |= active;
+                    self.explained |= explained;
+                }
+            }
+        }
+    }
+}
+
+/// The number of the query of the party that an item from a sender tells of: it is the receipt of one, or an answer to one.
+fn query_of(party: Party, sender: Party, item: &Item) -> Option<u32>
+    ensures { result ≡ query_of party sender item.now }
+{
+    match item {
+        Item::Receipt { k, query, .. } => (*query && sender == party).then_some(*k),
+        Item::Carried { message, .. } => match message.get() {
+            Message::Answer { asker, q, .. } => (*asker == party).then_some(*q),
+            _ => None,
+        },
     }
 }

@@ -124,10 +124,8 @@ impl Repository {
     pub fn product(&self, gtin: &Gtin) -> Option<&Product>
         ensures { option_copied result ≡ product_of self.now.log gtin.now }
     {
-        let Some(place) = self.tables.masters.get(gtin) else {
-            return None;
-        };
-        match message_at(self.log.as_slice(), *place as usize) {
+        let place = *self.tables.masters.get(gtin)?;
+        match message_at(self.log.as_slice(), place as usize) {
             Some(Message::Master { product, .. }) => Some(product.get()),
             _ => None,
         }
@@ -160,11 +158,8 @@ impl Repository {
         let (upload, statuses, _) = self.kept(key);
         let recall = match self.pack(key) {
             Some(held) => {
-                let batch = BatchKey {
-                    gtin: key.gtin,
-                    batch: held.batch,
-                };
-                stops.recalls.get(&batch).copied()
+                let (gtin, batch) = (key.gtin, held.batch);
+                stops.recalls.get(&BatchKey { gtin, batch }).copied()
             }
             None => None,
         };
@@ -245,10 +240,8 @@ impl Repository {
         let Some(held) = self.pack(key) else {
             return Found::Absent;
         };
-        let batch = BatchKey {
-            gtin: key.gtin,
-            batch: held.batch,
-        };
+        let (gtin, batch) = (key.gtin, held.batch);
+        let batch = BatchKey { gtin, batch };
         Found::Present {
             recalled: self.recalled(&batch),
             withdrawn: self.withdrawn(&key.gtin),

@@ -151,36 +151,32 @@ impl Basis<'_> {
 pub(crate) fn held_at(log: &[LogEntry], birth: u32, by: u32) -> Option<Held>
     ensures { result ≡ option_map held_of (known_at (entry_at log.now birth) (entry_at log.now by)) }
 {
-    let Some(
-        Message::Upload {
-            batch,
-            expiry,
-            national,
-            ..
-        },
-    ) = message_at(log, birth as usize)
-    else {
-        return None;
+    let change = match message_at(log, by as usize) {
+        Some(Message::Status { at, .. }) => Some(Change {
+            by: sender_at(log, by as usize),
+            at: *at,
+            entry: by as usize,
+        }),
+        _ => None,
     };
-    let (standing, change) = match message_at(log, by as usize) {
-        Some(Message::Status { to, at, .. }) => {
-            let change = Change {
-                by: sender_at(log, by as usize),
-                at: *at,
-                entry: by as usize,
-            };
-            (*to, Some(change))
-        }
-        _ => (Standing::Active, None),
-    };
-    Some(Held {
-        batch: batch.copy(),
-        expiry: *expiry,
-        national: match national {
-            Some(national) => Some(national.copy()),
-            None => None,
-        },
-        standing,
-        change,
-    })
+    match message_at(log, birth as usize) {
+        Some(
+            Message::Upload {
+                batch,
+                expiry,
+                national,
+                ..
+            },
+        ) => Some(Held {
+            batch: batch.copy(),
+            expiry: *expiry,
+            national: match national {
+                Some(national) => Some(national.copy()),
+                None => None,
+            },
+            standing: standing_by(log, by),
+            change,
+        }),
+        _ => None,
+    }
 }

@@ -1,6 +1,6 @@
 -- What a repository keeps beside its log: the tables of its products and packs, and what it knows of its own queries.
-use Rattle.std.specs.Prelude.{◌≡◌, ◌≤◌, ◌*◌, ◌&&◌, ◌==◌, unwrap_or}
-use Rattle.mv_repository.specs.Words.{ℕ, Bool, false, nat_eq, length, filter, last_or, bytes_eq, List, None, list_any, lookup, Master, Item, Carried, LogEntry, option_map}
+use Rattle.std.specs.Prelude.{◌≡◌, ◌≤◌, ◌*◌, ◌&&◌, ◌||◌, ◌==◌, if◌then◌else◌, unwrap_or}
+use Rattle.mv_repository.specs.Words.{ℕ, Bool, false, nat_eq, length, filter, last_or, bytes_eq, List, Option, Some, None, list_any, option_or, lookup, Master, Answer, Item, Receipt, Carried, LogEntry, option_map}
 use Rattle.mv_repository.specs.declared.inquiries.Inquiries.{Inquiries}
 use Rattle.mv_repository.specs.declared.inquiries.Inquiry.{Inquiry}
 use Rattle.mv_repository.specs.declared.tables.Tables.{Tables}
@@ -23,9 +23,22 @@ pub record AreTablesOf (log : List LogEntry) (tables : Tables) : Type 0 where
   pub shelves : (gtin : List ℕ) → AreShelfOf log gtin (shelf_of gtin tables.shelves.entries)
   pub few : (length (uploaded_packs log) ≤ 65536 * length log) × (length log ≤ 4294967296)
 
+-- the query of the party that an item from a sender tells of: it is the receipt of one, or an answer to one
+abbrev pub query_of : ℕ → ℕ → Item → Option ℕ
+query_of party sender (Receipt k reach query) = if query && (sender == party) then Some k else None
+query_of party sender (Carried k stamp (Answer asker q key found)) = if asker == party then Some q else None
+query_of party sender _ = None
+
 -- it is kept that a party has answered a query
 abbrev pub has_reply : Inquiries → ℕ → ℕ → Bool
 has_reply known q other = list_any (λ reply. (q == reply.0) && (other == reply.1)) known.replies.keys
+
+-- a query once an item tells of it: the first receipt names the parties that were asked, and each answer what it found
+abbrev pub inquiry_after : Item → Inquiry → Inquiry
+inquiry_after (Receipt k reach query) inquiry = record inquiry { asked = option_or inquiry.asked (Some reach) }
+inquiry_after (Carried k stamp (Answer asker q key found)) inquiry =
+    record inquiry { active = inquiry.active || found_active found; explained = inquiry.explained || found_explained found }
+inquiry_after _ inquiry = inquiry
 
 -- what a log says of a party's query
 abbrev pub inquiry_of : ℕ → List LogEntry → ℕ → Inquiry

@@ -2,8 +2,8 @@
 use Rattle.mv_repository.proofs.Words.{arith, common_steps}
 use Rattle.mv_repository.proofs.history.is_same_status.Goals as goal
 
-pub returns-then-is_before-2 : goal.returns-then-is_before-2
-returns-then-is_before-2 c = grind (arith, common_steps)
+pub returns-then-is_same_sent : goal.returns-then-is_same_sent
+returns-then-is_same_sent c = grind (arith, common_steps)
 
-pub returns-else-is_before-2 : goal.returns-else-is_before-2
-returns-else-is_before-2 c = grind (arith, common_steps)
+pub returns-else-is_same_sent : goal.returns-else-is_same_sent
+returns-else-is_same_sent c = grind (arith, common_steps)

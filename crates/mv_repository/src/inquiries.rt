@@ -68,9 +68,8 @@ impl Inquiries {
         };
         inquiry.or_insert(unknown).note(item);
         if let Item::Carried { .. } = item {
-            let Ok(_) = self.replies.insert((query, sender)) else {
-                unreachable!();
-            };
+            // There is room for it.
+            let _ = self.replies.insert((query, sender));
         }
     }
 

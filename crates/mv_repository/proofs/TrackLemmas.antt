@@ -1,5 +1,5 @@
 -- What is kept of a pack, and worked out by places in a log, is what the log means; and where a status goes.
-use Rattle.mv_repository.proofs.Words.{AllByRecursion, AreBlocks, AreStopsOf, Ascends, BatchKey, BatchStanding, Block, Carried, Effect, FirstStops, IfSome, IsCovered, IsKept, IsTrack, Item, Kept, KnownPack, List, LogEntry, None, Option, PackKey, PartySet, Placed, Some, Status, Stops, [], ap, arith, batch_key, batch_standing, change_effect, cond, cond_both, drop, drop-map, effect_after, effect_from, effect_of, effect_on, entries_before, entry_at, false, filter, first_stops, first_upload, fold, get_or, get_or-insert_at, insert, is_active, is_done, is_master, is_same_pack, is_status_of, is_upload_of, known_at, known_pack, length, length-map, length-take-le, life_of, map, message_in, nat_tests, next_by, next_place, no_entry, option_map, option_map_or, ordered, pack_grown, place_of, refl, rules, standing_at, statuses_of, stops_in, subst, sym, take, take-map, take_at, kept_of, true, true≢false, without, uploaded_in, ℕ, ◌+◌, ◌<◌, ◌∙◌, ◌∷◌, ◌≡◌, ◌≤◌, zero, suc, not, Bool, passes, stands_before, IsPartitionedBy, IsPartitionPoint, standing_of}
+use Rattle.mv_repository.proofs.Words.{AllByRecursion, AreBlocks, AreStopsOf, Ascends, BatchKey, BatchStanding, Block, Carried, Effect, FirstStops, IfSome, IsCovered, IsKept, IsTrack, Item, Kept, KnownPack, List, LogEntry, None, Option, PackKey, PartySet, Placed, Some, Status, Stops, [], ap, arith, batch_key, batch_standing, change_effect, cond, cond_both, drop, drop-map, effect_after, effect_from, effect_of, effect_on, entries_before, entry_at, false, filter, first_stops, first_upload, fold, get_or, get_or-insert_at, insert, is_active, is_done, is_master, is_same_pack, is_some, is_status_of, is_upload_of, known_at, known_pack, length, length-map, length-take-le, life_of, map, message_in, nat_tests, next_by, next_place, no_entry, option_map, option_map_or, ordered, pack_grown, place_of, refl, rules, standing_at, statuses_of, stops_in, subst, sym, take, take-map, take_at, kept_of, true, true≢false, without, uploaded_in, ℕ, ◌+◌, ◌<◌, ◌∙◌, ◌∷◌, ◌≡◌, ◌≤◌, zero, suc, not, Bool, passes, stands_before, IsPartitionedBy, IsPartitionPoint, standing_of}
 use Rattle.mv_repository.proofs.OrderLemmas.{ordered-ascends, ordered-below, ordered-stand, Stand, still-stand, StandsBeforeAll}
 use Rattle.mv_repository.proofs.BlockLemmas.{without-insert}
 use mathlib.Core.Path.{transport}
@@ -183,16 +183,11 @@ module _ (log : List LogEntry) (entry : LogEntry) (pack : PackKey) (xs : List Pl
   effect-front : (birth : Option Placed) → IfSome birth (λ y. get_or whole y.place no_entry ≡ y.entry) → IfSome birth (λ y. y.place < length log)
       → effect_at whole S pack.gtin (option_map place_of birth) (map place_of xs) (length log) ≡ effect (pack_grown S pack (counted x birth) xs)
   effect-front None b l = refl
-  effect-front (Some birth) b l =
+  effect-front (Some birth) b l = let last = fold (next_by S pack.gtin (Some birth)) birth xs in
+      let stays : stands_before birth x ≡ is_some (counted x (Some birth)) = grind (arith, nat_tests) in
       (λ i. effect_on S pack.gtin (entry-stands whole birth b i) (fold-own whole S pack.gtin birth xs b stand i) (entry-stands whole x (newest-stands log entry) i))
-      ∙ ap (λ (t : Bool). cond t (effect (known_at birth (fold (next_by S pack.gtin (Some birth)) birth xs))) effects.Unknown) stays ∙ by (passes x birth)
-    where
-      stays : stands_before birth x ≡ not (passes x birth)
-      stays = grind (arith, nat_tests)
-
-      by : (t : Bool) → cond (not t) (effect (known_at birth (fold (next_by S pack.gtin (Some birth)) birth xs))) effects.Unknown ≡ effect (pack_grown S pack (cond t None (Some birth)) xs)
-      by true = refl
-      by false = ap effect (sym (grown-by S pack birth xs))
+      ∙ ap (λ (t : Bool). cond t (effect (known_at birth last)) effects.Unknown) stays
+      ∙ cond_both (passes x birth) None (Some birth) (λ (o : Option Placed). cond (is_some o) (effect (known_at birth last)) effects.Unknown ≡ effect (pack_grown S pack o xs)) (λ e. refl) (λ e. ap effect (sym (grown-by S pack birth xs)))
 
 -- it is what the status does
 pub status-effect : (log : List LogEntry) (entry : LogEntry) (tables : Stops) (pack : PackKey) (front : List ℕ) → AreStopsOf log tables → is_status_of pack entry.item ≡ true

@@ -83,22 +83,16 @@ fn stands_behind(places: &Places<'_>, place: u32) -> (bool, bool, bool)
     )
 }
 
-/// Whether two statuses were sent alike, and stand alike behind the upload, the recall and the withdrawal.
-fn is_same_status(one: &Places<'_>, mine: u32, other: &Places<'_>, theirs: u32) -> bool
-    ensures { IsTrue result ↔ (sent_status (history_at one.now) (entry_at one.now.log.now mine)
-        ≡ sent_status (history_at other.now) (entry_at other.now.log.now theirs)) }
-{
-    is_same_sent(one, Some(mine), other, Some(theirs))
-        && stands_behind(one, mine) == stands_behind(other, theirs)
-}
-
-/// Whether two packs have the same statuses, one after another.
+/// Whether two packs have the same statuses, one after another: each was sent alike, and stands alike behind the upload, the recall
+/// and the withdrawal.
 fn have_same_statuses(one: &Places<'_>, other: &Places<'_>) -> bool
     ensures { IsTrue result ↔ (map (sent_status (history_at one.now)) (history_at one.now).statuses
         ≡ map (sent_status (history_at other.now)) (history_at other.now).statuses) }
 {
     for (mine, theirs) in one.statuses.iter().zip(other.statuses) {
-        if !is_same_status(one, *mine, other, *theirs) {
+        if stands_behind(one, *mine) != stands_behind(other, *theirs)
+            || !is_same_sent(one, Some(*mine), other, Some(*theirs))
+        {
             return false;
         }
     }

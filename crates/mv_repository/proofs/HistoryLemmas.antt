@@ -1,6 +1,6 @@
 -- What decides a pack in a log: two logs agree on the pack that have the same of it, or the same about it, or distinct stamps and the same
 -- messages. And the places that the tables keep of a pack are those of its history.
-use Rattle.mv_repository.proofs.Words.{◌≡◌, ◌∷◌, Message, rules, ℕ, Bool, false, find, list_any, List, [], refl, sym, ◌∙◌, ap, cond, Option, Some, None, is_some, fold, map, option_map, option_and_then, PackKey, BatchKey, batch_key, Item, Receipt, Carried, LogEntry, BatchStanding, Placed, ordered, KnownPack, known_pack, is_recall_of, is_withdrawal_of, Sent, sent_in, unplaced, is_batch_recalled, AgreeOn, made_batch, entry_of, pack_made_by, FirstStops, first_stops, standing_at, first_upload, statuses_of, pack_changed, pack_step, pack_grown, SentHistory, sent_of, history_of, PackHistory, sent_status, HaveSameHistory, arith, nat_tests, batch_in, ◌++◌, ◌<◌, suc, zero, nat_eq, get_or, length, subst, cond_both, All-contains, All-from_recursion, AllByRecursion, IsDistinct, HasDistinctStamps, HaveSameAbout, HaveSameEntries, Contains, cons_option, passes, put_in, Ascends, IsPermutation, IsPermutation-cons, IsPermutation-middle, IsPermutation-trans, true, true≢false, filter, append-nil, filter-append, list_any-append, IfSome, option_map_or, option_or, filter_map, bears_on, about, known_pack_from, pack_after_item, batch_standing, held_of, is_recalled_by, is_withdrawn_by, is_status_of, is_upload_of, map-append, All-contains_itself, filter_map-append, recursion_from_All, All-permutation, IsPermutation-refl, IsPermutation-sym, IsPermutation-to_front, IsDistinct-IsPermutation, AllPairs, bytes_eq, lookup, is_same_batch, AreAt, Held, pack_state, Stops, AreStopsOf, entry_at, kept_of, life_of}
+use Rattle.mv_repository.proofs.Words.{◌≡◌, ◌∷◌, Message, rules, ℕ, Bool, false, find, list_any, List, [], refl, sym, ◌∙◌, ap, cond, Option, Some, None, is_some, fold, map, option_map, option_and_then, PackKey, BatchKey, batch_key, Item, Receipt, Carried, LogEntry, BatchStanding, Placed, ordered, KnownPack, known_pack, is_recall_of, is_withdrawal_of, Sent, sent_in, unplaced, is_batch_recalled, AgreeOn, made_batch, pack_made_by, FirstStops, first_stops, standing_at, first_upload, statuses_of, pack_changed, pack_step, pack_grown, SentHistory, sent_of, history_of, PackHistory, sent_status, HaveSameHistory, arith, nat_tests, batch_in, ◌++◌, ◌<◌, suc, zero, nat_eq, get_or, length, subst, cond_both, All-contains, All-from_recursion, AllByRecursion, IsDistinct, HasDistinctStamps, HaveSameAbout, HaveSameEntries, Contains, cons_option, passes, put_in, Ascends, IsPermutation, IsPermutation-cons, IsPermutation-middle, IsPermutation-trans, true, true≢false, filter, append-nil, filter-append, list_any-append, IfSome, option_map_or, option_or, filter_map, bears_on, about, known_pack_from, pack_after_item, batch_standing, held_of, is_recalled_by, is_withdrawn_by, is_status_of, is_upload_of, map-append, All-contains_itself, filter_map-append, recursion_from_All, All-permutation, IsPermutation-refl, IsPermutation-sym, IsPermutation-to_front, IsDistinct-IsPermutation, AllPairs, bytes_eq, lookup, is_same_batch, AreAt, Held, pack_state, Stops, AreStopsOf, entry_at, kept_of, life_of}
 use Rattle.mv_repository.proofs.OrderLemmas.{ordered-ascends, by_entries, ordered-push, placed_at, StandsBeforeAll, ordered-of, ordered-stand, filter-all, find-all, order_of}
 use Rattle.mv_repository.proofs.StateLemmas.{known-grown, find-stands, map-stands}
 use Rattle.mv_repository.proofs.TableLemmas.{filter-stand}
@@ -57,10 +57,6 @@ module _ (pack : PackKey) (stops stops' : FirstStops) where
       → map (sent_status (decided stops upload batch)) own ≡ map (sent_status (decided stops' upload' batch')) own'
       → option_map unplaced (pack_grown stops pack upload own) ≡ option_map unplaced (pack_grown stops' pack upload' own')
   same-grown upload upload' batch batch' own own' b c e f = grind (arith, nat_tests, same-fold)
-
--- an entry that is lent is sent as it stands
-pub sent_entry : (o : Option Placed) → option_and_then (λ (entry : LogEntry). sent_in entry.sender entry.item) (option_map entry_of o) ≡ option_and_then sent_of o
-sent_entry o = grind (arith, nat_tests)
 
 -- the first of a kind was sent where there is one, and no receipt is of the kind
 found-sent : (f : Item → Bool) → ((k : ℕ) (reach : List ℕ) (query : Bool) → f (Receipt k reach query) ≡ false) → (xs : List Placed)

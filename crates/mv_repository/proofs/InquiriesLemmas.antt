@@ -1,5 +1,5 @@
 -- Lemmas on what a log says of its party's queries.
-use Rattle.mv_repository.proofs.Words.{◌≡◌, ◌∷◌, ◌++◌, ◌&&◌, ◌||◌, ◌==◌, arith, nat_tests, ℕ, List, [], ◌∙◌, ap, Bool, false, cond, Option, Some, None, is_some, length, list_any, option_or, option_map_or, or-false, list_any-append, Message, Item, Carried, LogEntry, Inquiries, Inquiry, asked_parties, finding_in, has_answered, found_active, found_explained, joint_verdict, sym, query_of, inquiry_after, lookup, nat_eq, unwrap_or, has_reply, inquiry_of, IsInquiriesOf, query_reach, verdict_when, not, filter, Decided}
+use Rattle.mv_repository.proofs.Words.{◌≡◌, ◌∷◌, ◌++◌, ◌&&◌, ◌||◌, ◌==◌, arith, nat_tests, ℕ, List, [], ◌∙◌, ap, Bool, false, cond, Option, Some, None, is_some, length, list_any, option_or, option_map_or, or-false, list_any-append, Message, Item, Carried, LogEntry, Inquiries, Inquiry, asked_parties, finding_in, has_answered, found_active, found_explained, joint_verdict, sym, query_of, inquiry_after, lookup, nat_eq, unwrap_or, has_reply, inquiry_of, IsInquiriesOf, query_reach, verdict_when, not, filter, Decided, Pending}
 
 -- what is kept of a query, if only nothing
 abbrev pub inquiry_in : Inquiries → ℕ → Inquiry
@@ -55,9 +55,10 @@ pub answer_noted : (party : ℕ) (log : List LogEntry) (sender : ℕ) (item : It
     → IsInquiriesOf party log known → IsInquiriesOf party (with_entry log sender item) known'
 answer_noted party log sender item asked known known' k stamp message form told inquiries replies is = grind (arith, nat_tests, inquiry-more, replies-more)
 
--- what is known decides the verdict, once all have answered
-pub verdict_known : (party : ℕ) (log : List LogEntry) (known : Inquiries) (q : ℕ) (inquiry : Inquiry) (parties : List ℕ) → IsInquiriesOf party log known → inquiry_in known q ≡ inquiry
-    → inquiry.asked ≡ Some parties → length (filter (λ other. not (has_reply known q other)) parties) ≡ 0 → Decided (verdict_when inquiry.active inquiry.explained) ≡ joint_verdict party log q
-verdict_known party log known q inquiry parties is same e none = let of : inquiry ≡ inquiry_of party log q = sym same ∙ is.inquiries q in
-    let left : length (filter (λ other. not (has_answered party log q other)) parties) ≡ 0 = sym (λ i. length (filter (λ other. not (is.replies q other i)) parties)) ∙ none in
+-- what is known decides the verdict, by how many have not answered
+pub verdict_known : (party : ℕ) (log : List LogEntry) (known : Inquiries) (q : ℕ) (inquiry : Inquiry) (parties : List ℕ) (left : ℕ) → IsInquiriesOf party log known
+    → inquiry_in known q ≡ inquiry → inquiry.asked ≡ Some parties → length (filter (λ other. not (has_reply known q other)) parties) ≡ left
+    → cond (left == 0) (Decided (verdict_when inquiry.active inquiry.explained)) (Pending left) ≡ joint_verdict party log q
+verdict_known party log known q inquiry parties left is same e count = let of : inquiry ≡ inquiry_of party log q = sym same ∙ is.inquiries q in
+    let left : length (filter (λ other. not (has_answered party log q other)) parties) ≡ left = sym (λ i. length (filter (λ other. not (is.replies q other i)) parties)) ∙ count in
     cc

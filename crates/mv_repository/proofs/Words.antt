@@ -13,7 +13,7 @@ pub use Rattle.mv_repository.specs.Order.{Ascends, IsOrderOf, Placed, ordered, p
 pub use Rattle.mv_repository.specs.Pack.{ChangeNamesStatus, KnownPack, NamesStatus, batch_standing, change_effect, effect_after, effect_of, entries_before, has_pack, held_of, is_active, is_done, is_recall_of, is_recalled_by, is_withdrawal_of, is_withdrawn_by, known_pack, known_pack_from, lasting_effect, pack_after_item, pack_state}
 pub use Rattle.mv_repository.specs.Repository.{items_from, mastered_in, product_of, product_under, recalled_in, serials_in, serials_of, uploaded_in, uploaded_packs}
 pub use Rattle.mv_repository.specs.Verdict.{asked_parties, finding_in, found_active, found_explained, has_answered, joint_verdict, query_reach, verdict_when}
-pub use Rattle.mv_repository.specs.Words.{Active, BatchStanding, Block, Carried, Counted, Decided, Effect, Held, Item, LogEntry, Made, Master, Message, Own, PARTIES_LIMIT, PartySet, Product, Recall, Receipt, Slot, Standing, Status, Stop, Stops, Upload, Withdraw, bytes_eq, insert_all, insert_key, keys_of, lookup, option_and_then, option_map, option_map_or, option_or, slice_get, unwrap_or}
+pub use Rattle.mv_repository.specs.Words.{Active, BatchStanding, Block, Carried, Counted, Decided, Effect, Held, Item, LogEntry, Made, Master, Message, Own, PARTIES_LIMIT, PartySet, Pending, Product, Recall, Receipt, Slot, Standing, Status, Stop, Stops, Upload, Withdraw, bytes_eq, insert_all, insert_key, keys_of, lookup, option_and_then, option_map, option_map_or, option_or, slice_get, unwrap_or}
 pub use Rattle.mv_repository.specs.declared.blocks.Cut.{Cut}
 pub use Rattle.mv_repository.specs.declared.blocks.TheConstants.{BLOCK}
 pub use Rattle.mv_repository.specs.declared.history.Places.{Places}

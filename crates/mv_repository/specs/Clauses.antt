@@ -1,9 +1,9 @@
 -- The names that the clauses of this crate cite, passed on from one place. Declares nothing.
-pub use Rattle.mv_repository.specs.Agreement.{AgreeOn, HasDistinctStamps, HaveSameAbout, HaveSameEntries, HaveSameHistory, about, as_sent, history_of, sent_in, sent_status, PackHistory}
+pub use Rattle.mv_repository.specs.Agreement.{AgreeOn, HasDistinctStamps, HaveSameAbout, HaveSameEntries, HaveSameHistory, about, as_sent, history_of, sent_of, sent_status, PackHistory}
 pub use Rattle.mv_repository.specs.inside.Track.{IsAt, history_at, change_in, effect_in, newest_effect, next_in, AreBlocks, IsCut, IsFront, IsKept, IsSummary, life_of, kept_of, without, AreStopsOf, comes_first, is_stop, stopped_product, stops_in, made_batch, known_at, standing_of, AreAt}
 pub use Rattle.mv_repository.specs.Repository.{counts_of, uploaded_packs, items_from, new_repository, product_of, serials_of, with_applied, RepositoryState}
 pub use Rattle.mv_repository.specs.Pack.{code_of, effect_of, ChangeNamesStatus, is_active, is_recalled, is_withdrawn, known_pack, pack_state, revert_effect, held_of}
-pub use Rattle.mv_repository.specs.inside.Tables.{AreTablesOf, IsInquiriesOf, has_reply, inquiry_after, query_of}
+pub use Rattle.mv_repository.specs.inside.Tables.{AreTablesOf, IsInquiriesOf, inquiry_after, query_of}
 pub use Rattle.mv_repository.specs.Order.{Ascends, IsOrderOf, ordered, passes, rank, stands_before}
 pub use Rattle.mv_repository.specs.inside.Shelf.{AreShelfOf, AreSlots, IsNamed, IsSpot, Writes, no_slot, serial_of, serials_uploaded, IsAgain, IsPut, IsRefreshed, IsUploadOf, is_counted, kept_by, kept_in, listing_of, lists, no_shelf, nothing_kept, shelf_by}
 pub use Rattle.mv_repository.specs.Bearing.{entry_at, entry_of, first_stops, first_upload, is_before, is_status_of, message_in, pack_grown, recalled_batches, standing_at, statuses_of, withdrawn_products}

@@ -84,7 +84,6 @@ struct Cut {
 }
 
 /// The blocks that end in front of a place among the statuses, or at it. The place stands in the next, if there is one.
-#[tactic(auto, using(crate::proofs::BlockLemmas::cut_next, std::proofs::lemmas::List::get_or_default, std::proofs::lemmas::Grind::common_steps))]
 fn cut_at(basis: &Basis<'_>, blocks: &Vec<Block>, at: usize) -> Cut
     ensures at { result.start ≤ at }
     ensures inside { result.number < length blocks.now.items → (block : TheBlock) → block ≡ get_or blocks.now.items result.number block

@@ -1,7 +1,7 @@
 //! What decides one pack, lent from a repository, and whether two have the same.
 
 ghost use Rattle.std.specs.Prelude.{◌≡◌, ◌↔◌};
-ghost use Rattle.mv_repository.specs.Clauses.{IsTrue, YieldsFirstRef, as_sent, entry_at, entry_of, history_at, item_count, map, option_and_then, option_copied, option_map, sent_in, sent_status};
+ghost use Rattle.mv_repository.specs.Clauses.{IsTrue, YieldsFirstRef, as_sent, entry_at, entry_of, history_at, is_before, item_count, map, option_and_then, option_copied, option_map, sent_of, sent_status, slice_get};
 
 use crate::LogEntry;
 use crate::entry::is_before;
@@ -25,12 +25,25 @@ pub(crate) struct Places<'a> {
     pub withdrawal: Option<u32>,
 }
 
-/// The sender, the stamp and the message of an entry, if there is one; none of a receipt.
-fn sent_of(entry: Option<&LogEntry>) -> Option<(Party, u32, &Message)>
+impl<'a> Places<'a> {
+    /// The entry at a place, if there is one.
+    fn entry(&self, place: Option<u32>) -> Option<&'a LogEntry>
+        ensures { option_copied result ≡ option_and_then (slice_get self.now.log.now) place }
+    {
+        match place {
+            Some(place) => self.log.get(place as usize),
+            None => None,
+        }
+    }
+}
+
+/// The sender, the stamp and the message of the entry at a place, if there is one; none of a receipt.
+fn sent_at(log: &[LogEntry], place: Option<u32>) -> Option<(Party, u32, &Message)>
     ensures { option_map (λ sent. record { sender = sent.0; stamp = sent.1; message = sent.2.now }) result
-        ≡ option_and_then (λ entry. sent_in entry.sender entry.item) (option_copied entry.entry) }
+        ≡ option_and_then sent_of (option_map (entry_at log.now) place) }
 {
-    if let Some(entry) = entry
+    if let Some(place) = place
+        && let Some(entry) = log.get(place as usize)
         && let Item::Carried { stamp, message, .. } = &entry.item
     {
         return Some((entry.sender, *stamp, message.get()));
@@ -38,39 +51,48 @@ fn sent_of(entry: Option<&LogEntry>) -> Option<(Party, u32, &Message)>
     None
 }
 
-/// Whether the same was sent by two entries, if there are any.
-fn is_same_sent(one: Option<&LogEntry>, other: Option<&LogEntry>) -> bool
-    ensures { IsTrue result ↔ (option_and_then (λ entry. sent_in entry.sender entry.item) (option_copied one.entry)
-        ≡ option_and_then (λ entry. sent_in entry.sender entry.item) (option_copied other.entry)) }
+/// Whether the same was sent by the entries at two places, if there are any.
+fn is_same_sent(
+    one: &Places<'_>,
+    mine: Option<u32>,
+    other: &Places<'_>,
+    theirs: Option<u32>,
+) -> bool
+    ensures { IsTrue result ↔ (option_and_then sent_of (option_map (entry_at one.now.log.now) mine)
+        ≡ option_and_then sent_of (option_map (entry_at other.now.log.now) theirs)) }
 {
-    match (sent_of(one), sent_of(other)) {
-        (Some(one), Some(other)) => {
-            one.0 == other.0 && one.1 == other.1 && messages_are_equal(one.2, other.2)
-        }
-        (None, None) => true,
-        _ => false,
-    }
+    let Some(one) = sent_at(one.log, mine) else {
+        return sent_at(other.log, theirs).is_none();
+    };
+    let Some(other) = sent_at(other.log, theirs) else {
+        return false;
+    };
+    one.0 == other.0 && one.1 == other.1 && messages_are_equal(one.2, other.2)
 }
 
-/// Whether two statuses were sent alike, and stand alike behind the upload, the recall and the withdrawal.
-fn is_same_status(one: &Places<'_>, mine: u32, other: &Places<'_>, theirs: u32) -> bool
-    ensures { IsTrue result ↔ (sent_status (history_at one.now) (entry_at one.now.log.now mine)
-        ≡ sent_status (history_at other.now) (entry_at other.now.log.now theirs)) }
+/// Whether the upload, the recall and the withdrawal stand before a status.
+fn stands_behind(places: &Places<'_>, place: u32) -> (bool, bool, bool)
+    ensures upload { result.0 ≡ is_before (history_at places.now).upload (entry_at places.now.log.now place) }
+    ensures recall { result.1 ≡ is_before (history_at places.now).recall (entry_at places.now.log.now place) }
+    ensures withdrawal { result.2 ≡ is_before (history_at places.now).withdrawal (entry_at places.now.log.now place) }
 {
-    is_same_sent(one.log.get(mine as usize), other.log.get(theirs as usize))
-        && is_before(one.log, one.upload, mine) == is_before(other.log, other.upload, theirs)
-        && is_before(one.log, one.recall, mine) == is_before(other.log, other.recall, theirs)
-        && is_before(one.log, one.withdrawal, mine)
-            == is_before(other.log, other.withdrawal, theirs)
+    (
+        is_before(places.log, places.upload, place),
+        is_before(places.log, places.recall, place),
+        is_before(places.log, places.withdrawal, place),
+    )
 }
 
-/// Whether two packs have the same statuses, one after another.
+/// Whether two packs have the same statuses, one after another: each was sent alike, and stands alike behind the upload, the recall
+/// and the withdrawal.
 fn have_same_statuses(one: &Places<'_>, other: &Places<'_>) -> bool
     ensures { IsTrue result ↔ (map (sent_status (history_at one.now)) (history_at one.now).statuses
         ≡ map (sent_status (history_at other.now)) (history_at other.now).statuses) }
 {
     for (mine, theirs) in one.statuses.iter().zip(other.statuses) {
-        if !is_same_status(one, *mine, other, *theirs) {
+        if stands_behind(one, *mine) != stands_behind(other, *theirs)
+            || !is_same_sent(one, Some(*mine), other, Some(*theirs))
+        {
             return false;
         }
     }
@@ -100,10 +122,7 @@ impl<'a> History<'a> {
     pub fn upload(&self) -> Option<&'a LogEntry>
         ensures { option_copied result ≡ option_map entry_of self.now.upload }
     {
-        match self.places.upload {
-            Some(place) => self.places.log.get(place as usize),
-            None => None,
-        }
+        self.places.entry(self.places.upload)
     }
 
     /// The statuses of the pack, in the order of stamps.
@@ -120,17 +139,14 @@ impl<'a> History<'a> {
     pub fn recall(&self) -> Option<&'a LogEntry>
         ensures { option_copied result ≡ option_map entry_of self.now.recall }
     {
-        match self.places.recall {
-            Some(place) => self.places.log.get(place as usize),
-            None => None,
-        }
+        self.places.entry(self.places.recall)
     }
 
     /// The first withdrawal of the pack's product.
     pub fn withdrawal(&self) -> Option<&'a LogEntry>
         ensures { option_copied result ≡ option_map entry_of self.now.withdrawal }
     {
-        self.places.log.get(self.places.withdrawal? as usize)
+        self.places.entry(self.places.withdrawal)
     }
 
     /// Whether two histories are the same: what decides the packs was sent alike, and each status stands alike behind the
@@ -138,10 +154,11 @@ impl<'a> History<'a> {
     pub fn is_same(&self, other: &History<'_>) -> bool
         ensures { IsTrue result ↔ (as_sent self.now ≡ as_sent other.now) }
     {
-        is_same_sent(self.upload(), other.upload())
-            && have_same_statuses(&self.places, &other.places)
-            && is_same_sent(self.recall(), other.recall())
-            && is_same_sent(self.withdrawal(), other.withdrawal())
+        let (one, other) = (&self.places, &other.places);
+        is_same_sent(one, one.upload, other, other.upload)
+            && have_same_statuses(one, other)
+            && is_same_sent(one, one.recall, other, other.recall)
+            && is_same_sent(one, one.withdrawal, other, other.withdrawal)
     }
 }
 
@@ -172,7 +189,9 @@ impl<'a> Iterator for Statuses<'a> {
     ghost remaining = { item_count (λ it. it) };
 
     fn next(&mut self) -> Option<&'a LogEntry> {
-        let (place, rest) = self.statuses.split_first()?;
+        let Some((place, rest)) = self.statuses.split_first() else {
+            return None;
+        };
         self.statuses = rest;
         self.log.get(*place as usize)
     }

@@ -4,10 +4,10 @@
 //! It stands apart since no other table bears on it: it changes at receipts of queries and at answers alone.
 
 ghost use Rattle.std.specs.Prelude.{◌≡◌, ◌≤◌, ◌∷◌, ◌++◌, ◌<◌};
-ghost use Rattle.mv_repository.specs.Clauses.{AnEntry, IsInquiriesOf, List, OnOk, [], filter, has_reply, inquiry_after, joint_verdict, length, not, query_of, ℕ, Some, map_spare, set_spare};
+ghost use Rattle.mv_repository.specs.Clauses.{AnEntry, IsInquiriesOf, List, OnOk, [], inquiry_after, joint_verdict, query_of, ℕ, map_spare, set_spare};
 
 use crate::Joint;
-use crate::verdict::{found_active, found_explained, verdict_when};
+use crate::verdict::{findings, verdict_when};
 use indexmap::{IndexMap, IndexSet};
 use mv_link::{Item, Reached};
 use mv_message::{Message, Party};
@@ -68,9 +68,8 @@ impl Inquiries {
         };
         inquiry.or_insert(unknown).note(item);
         if let Item::Carried { .. } = item {
-            let Ok(_) = self.replies.insert((query, sender)) else {
-                unreachable!();
-            };
+            // There is room for it.
+            let _ = self.replies.insert((query, sender));
         }
     }
 
@@ -85,26 +84,17 @@ impl Inquiries {
         let Some(asked) = &inquiry.asked else {
             return Joint::NotAsked;
         };
-        let left = self.left_count(q, asked.to_reach().as_slice());
+        let asked = asked.to_reach();
+        let parties = asked.as_slice();
+        let mut left = 0;
+        for other in parties {
+            left += !self.replies.contains(&(q, *other)) as u32;
+        }
         if left == 0 {
             Joint::Decided(verdict_when(inquiry.active, inquiry.explained))
         } else {
             Joint::Pending { left }
         }
-    }
-
-    /// How many of these parties have not answered a query.
-    fn left_count(&self, q: u32, asked: &[Party]) -> u32
-        requires { length asked.now ≤ 64 }
-        ensures { result ≡ length (filter (λ other. not (has_reply self.now q other)) asked.now) }
-    {
-        let mut left = 0;
-        for other in asked {
-            if !self.replies.contains(&(q, *other)) {
-                left += 1;
-            }
-        }
-        left
     }
 }
 
@@ -119,8 +109,9 @@ impl Inquiry {
             }
             Item::Carried { message, .. } => {
                 if let Message::Answer { found, .. } = message.get() {
-                    self.active = self.active || found_active(found);
-                    self.explained = self.explained || found_explained(found);
+                    let (active, explained) = findings(found);
+                    self.active |= active;
+                    self.explained |= explained;
                 }
             }
         }

@@ -1,7 +1,7 @@
 //! A national repository: its log, the tables of it, and what it knows of its own queries.
 
 ghost use Rattle.std.specs.Prelude.{◌≡◌};
-ghost use Rattle.mv_repository.specs.Clauses.{IfOk, OnErr, OnOk, [], answer_after, answer_to, batch_key, counts_of, effect_of, found_of, history_of, is_recalled, is_withdrawn, items_from, joint_verdict, local_verdict, new_repository, option_copied, pack_state, product_of, recalled_batches, serials_of, kept_of, life_of, with_applied, withdrawn_products};
+ghost use Rattle.mv_repository.specs.Clauses.{IfOk, OnErr, OnOk, [], answer_after, answer_to, counts_of, effect_of, found_of, history_of, is_recalled, is_withdrawn, items_from, joint_verdict, local_verdict, new_repository, option_copied, pack_state, product_of, recalled_batches, serials_of, kept_of, life_of, with_applied, withdrawn_products};
 
 use crate::entry::message_at;
 use crate::history::Places;
@@ -10,7 +10,7 @@ use crate::shelf::Counted;
 use crate::state::held_at;
 use crate::stops::Stops;
 use crate::tables::Tables;
-use crate::verdict::{found_active, found_explained, verdict_when};
+use crate::verdict::{findings, verdict_when};
 use crate::{Effect, FromSender, Held, History, Joint, Local, LogEntry, ProductSerials};
 use indexmap::{IndexMap, IndexSet};
 use mv_link::Item;
@@ -125,8 +125,8 @@ impl Repository {
         ensures { option_copied result ≡ product_of self.now.log gtin.now }
     {
         let place = *self.tables.masters.get(gtin)?;
-        match message_at(self.log.as_slice(), place as usize)? {
-            Message::Master { product, .. } => Some(product.get()),
+        match message_at(self.log.as_slice(), place as usize) {
+            Some(Message::Master { product, .. }) => Some(product.get()),
             _ => None,
         }
     }
@@ -157,7 +157,10 @@ impl Repository {
         let stops = &self.tables.stops;
         let (upload, statuses, _) = self.kept(key);
         let recall = match self.pack(key) {
-            Some(held) => stops.recalls.get(&batch_of(key, &held)).copied(),
+            Some(held) => {
+                let (gtin, batch) = (key.gtin, held.batch);
+                stops.recalls.get(&BatchKey { gtin, batch }).copied()
+            }
             None => None,
         };
         let places = Places {
@@ -237,14 +240,15 @@ impl Repository {
         let Some(held) = self.pack(key) else {
             return Found::Absent;
         };
-        let batch = batch_of(key, &held);
+        let (gtin, batch) = (key.gtin, held.batch);
+        let batch = BatchKey { gtin, batch };
         Found::Present {
-            batch: held.batch,
+            recalled: self.recalled(&batch),
+            withdrawn: self.withdrawn(&key.gtin),
+            batch: batch.batch,
             expiry: held.expiry,
             national: held.national,
             standing: held.standing,
-            recalled: self.recalled(&batch),
-            withdrawn: self.withdrawn(&key.gtin),
         }
     }
 
@@ -254,7 +258,10 @@ impl Repository {
     {
         match self.found(key) {
             Found::Absent => Local::Absent,
-            found => Local::Known(verdict_when(found_active(&found), found_explained(&found))),
+            found => {
+                let (active, explained) = findings(&found);
+                Local::Known(verdict_when(active, explained))
+            }
         }
     }
 
@@ -330,15 +337,5 @@ impl Repository {
                 Err(refused)
             }
         }
-    }
-}
-
-/// The batch of a pack that is held.
-fn batch_of(key: &PackKey, held: &Held) -> BatchKey
-    ensures { result ≡ batch_key key.now.gtin held.now.batch }
-{
-    BatchKey {
-        gtin: key.gtin,
-        batch: held.batch.copy(),
     }
 }

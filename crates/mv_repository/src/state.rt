@@ -4,7 +4,7 @@
 ghost use Rattle.std.specs.Prelude.{◌≡◌, ◌+◌, length};
 ghost use Rattle.mv_repository.specs.Clauses.{change_in, effect_in, entry_at, fold, is_active, next_in, revert_effect, Some, held_of, known_at, message_in, option_map, standing_of};
 
-use crate::entry::{message_at, sender_at, stands_before};
+use crate::entry::{is_before, message_at, sender_at};
 use crate::held::REVERT_SECONDS;
 use crate::stops::{BatchStanding, Stops};
 use crate::{Change, Effect, Held, LogEntry};
@@ -93,7 +93,7 @@ impl Basis<'_> {
         ensures { result ≡ effect_in self.now by place }
     {
         let log = self.log;
-        if !stands_before(log, self.birth, place) {
+        if !is_before(log, Some(self.birth), place) {
             return Effect::Unknown;
         }
         let Some(Message::Upload { batch, expiry, .. }) = message_at(log, self.birth as usize)
@@ -151,15 +151,6 @@ impl Basis<'_> {
 pub(crate) fn held_at(log: &[LogEntry], birth: u32, by: u32) -> Option<Held>
     ensures { result ≡ option_map held_of (known_at (entry_at log.now birth) (entry_at log.now by)) }
 {
-    let Message::Upload {
-        batch,
-        expiry,
-        national,
-        ..
-    } = message_at(log, birth as usize)?
-    else {
-        return None;
-    };
     let change = match message_at(log, by as usize) {
         Some(Message::Status { at, .. }) => Some(Change {
             by: sender_at(log, by as usize),
@@ -168,14 +159,24 @@ pub(crate) fn held_at(log: &[LogEntry], birth: u32, by: u32) -> Option<Held>
         }),
         _ => None,
     };
-    Some(Held {
-        batch: batch.copy(),
-        expiry: *expiry,
-        national: match national {
-            Some(national) => Some(national.copy()),
-            None => None,
-        },
-        standing: standing_by(log, by),
-        change,
-    })
+    match message_at(log, birth as usize) {
+        Some(
+            Message::Upload {
+                batch,
+                expiry,
+                national,
+                ..
+            },
+        ) => Some(Held {
+            batch: batch.copy(),
+            expiry: *expiry,
+            national: match national {
+                Some(national) => Some(national.copy()),
+                None => None,
+            },
+            standing: standing_by(log, by),
+            change,
+        }),
+        _ => None,
+    }
 }

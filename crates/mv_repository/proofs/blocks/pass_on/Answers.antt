@@ -35,3 +35,6 @@ index_mut-requires-in-loop-number c = grind (arith, common_steps, late_within)
 
 pub returns-then-last-before-clause-by : goal.returns-then-last-before-clause-by
 returns-then-last-before-clause-by c = grind (arith, common_steps, late_within)
+
+pub split_at-requires-2 : goal.split_at-requires-2
+split_at-requires-2 c = grind (arith, common_steps, late_within)

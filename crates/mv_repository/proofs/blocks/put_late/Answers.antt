@@ -27,11 +27,8 @@ returns c = let cut = c.cut_at-cut.ensures.cut (without c.args.own.now c.args.at
       by = grind (arith, common_steps, late-fold);
     }
 
-pub pass_on-requires-clause-cut : goal.pass_on-requires-clause-cut
-pass_on-requires-clause-cut c = c.cut_at-cut.ensures.cut (without c.args.own.now c.args.at) c.requires.blocks
-
 pub returns-then-at-own-clause-by : goal.returns-then-at-own-clause-by
 returns-then-at-own-clause-by c = grind (arith, common_steps)
 
-pub pass_on-requires-clause-inside : goal.pass_on-requires-clause-inside
-pass_on-requires-clause-inside c = c.cut_at-cut.ensures.inside (omega arith)
+pub pass_on-requires : goal.pass_on-requires
+pass_on-requires c = record { within = c.requires.within; number = omega arith; at = c.cut_at-cut.ensures.at; inside = c.cut_at-cut.ensures.inside (omega arith); cut = c.cut_at-cut.ensures.cut (without c.args.own.now c.args.at) c.requires.blocks; standing = c.requires.standing }

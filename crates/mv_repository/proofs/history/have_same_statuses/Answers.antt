@@ -8,8 +8,8 @@ loop-mine-init c = grind (arith, common_steps)
 pub loop-mine-preserved : goal.loop-mine-preserved
 loop-mine-preserved c = grind (arith, common_steps)
 
-pub returns-then-not-is_same_status : goal.returns-then-not-is_same_status
-returns-then-not-is_same_status c = grind (arith, common_steps)
+pub returns-then-ne : goal.returns-then-ne
+returns-then-ne c = grind (arith, common_steps)
 
 pub returns : goal.returns
 returns c = grind (arith, common_steps)

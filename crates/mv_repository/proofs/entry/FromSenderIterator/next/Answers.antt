@@ -7,3 +7,9 @@ loop-entry-preserved c = grind (arith, common_steps)
 
 pub returns-then-entry-self-clause-steps : goal.returns-then-entry-self-clause-steps
 returns-then-entry-self-clause-steps c = grind (arith, common_steps)
+
+pub returns-clause-steps : goal.returns-clause-steps
+returns-clause-steps c = grind (arith, common_steps)
+
+pub returns-then-entry-self-clause-goes : goal.returns-then-entry-self-clause-goes
+returns-then-entry-self-clause-goes c = grind (arith, common_steps)

@@ -37,3 +37,12 @@ returns-in_default-clause-err c = grind (arith, common_steps)
 
 pub invariant_of-self-in_default : goal.invariant_of-self-in_default
 invariant_of-self-in_default c = grind (arith, common_steps)
+
+pub note-requires : goal.note-requires
+note-requires c = grind (arith, common_steps)
+
+pub push_reserved-requires : goal.push_reserved-requires
+push_reserved-requires c = grind (arith, common_steps)
+
+pub invariant_of-self : goal.invariant_of-self
+invariant_of-self c = grind (arith, common_steps)

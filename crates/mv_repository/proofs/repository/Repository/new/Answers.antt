@@ -1,14 +1,17 @@
 -- No shelf is kept, and nothing is known of a query.
-use Rattle.mv_repository.proofs.Lemmas.{◌≡◌, [], AreShelfOf, arith, no-shelf-yet, no_shelf, rules, shelf_of, subst, sym}
+use Rattle.mv_repository.proofs.Lemmas.{[], AreShelfOf, ap, arith, no-shelf-yet, shelf_of, subst, sym}
 use Rattle.mv_repository.proofs.repository.Repository.new.Goals as goal
 
 pub invariant_of-result : goal.invariant_of-result
 invariant_of-result c = rw c.new.ensures.items (
   record {
-    masters = search rules;
-    stops = search rules;
-    shelves = λ gtin. let none : shelf_of gtin c.new-5.result.entries ≡ no_shelf = search rules in subst (AreShelfOf [] gtin) (sym none) (no-shelf-yet gtin);
+    masters = λ gtin. rw c.new-2.ensures.empty;
+    stops = record {
+      recalls = record { found = λ key. rw c.new-3.ensures.empty; keys = rw c.new-3.ensures.empty };
+      withdrawals = record { found = λ key. rw c.new-4.ensures.empty; keys = rw c.new-4.ensures.empty };
+    };
+    shelves = λ gtin. subst (AreShelfOf [] gtin) (sym (ap (shelf_of gtin) c.new-5.ensures.empty)) (no-shelf-yet gtin);
     few = (omega arith, omega arith);
   },
-  search rules,
+  record { inquiries = λ q. rw c.new-6.ensures.empty; replies = λ q other. rw c.new-7.ensures.empty },
 )

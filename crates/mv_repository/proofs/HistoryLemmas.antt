@@ -1,6 +1,6 @@
 -- What decides a pack in a log: two logs agree on the pack that have the same of it, or the same about it, or distinct stamps and the same
 -- messages. And the places that the tables keep of a pack are those of its history.
-use Rattle.mv_repository.proofs.Words.{◌≡◌, ◌∷◌, Message, rules, ℕ, Bool, false, find, list_any, List, [], refl, sym, ◌∙◌, ap, cond, Option, Some, None, is_some, fold, map, option_map, option_and_then, PackKey, BatchKey, batch_key, Item, Receipt, Carried, LogEntry, BatchStanding, Placed, ordered, KnownPack, known_pack, is_recall_of, is_withdrawal_of, Sent, sent_in, unplaced, is_batch_recalled, AgreeOn, made_batch, pack_made_by, FirstStops, first_stops, standing_at, first_upload, statuses_of, pack_changed, pack_step, pack_grown, SentHistory, sent_of, history_of, PackHistory, sent_status, HaveSameHistory, arith, nat_tests, batch_in, ◌++◌, ◌<◌, suc, zero, nat_eq, get_or, length, subst, cond_both, All-contains, All-from_recursion, AllByRecursion, IsDistinct, HasDistinctStamps, HaveSameAbout, HaveSameEntries, Contains, cons_option, passes, put_in, Ascends, IsPermutation, IsPermutation-cons, IsPermutation-middle, IsPermutation-trans, true, true≢false, filter, append-nil, filter-append, list_any-append, IfSome, option_map_or, option_or, filter_map, bears_on, about, known_pack_from, pack_after_item, batch_standing, held_of, is_recalled_by, is_withdrawn_by, is_status_of, is_upload_of, map-append, All-contains_itself, filter_map-append, recursion_from_All, All-permutation, IsPermutation-refl, IsPermutation-sym, IsPermutation-to_front, IsDistinct-IsPermutation, AllPairs, bytes_eq, lookup, is_same_batch, AreAt, Held, pack_state, Stops, AreStopsOf, entry_at, kept_of, life_of}
+use Rattle.mv_repository.proofs.Words.{◌≡◌, ◌∷◌, Message, rules, ℕ, Bool, false, find, list_any, List, [], refl, sym, ◌∙◌, ap, cond, Option, Some, None, is_some, fold, map, option_map, option_and_then, PackKey, BatchKey, batch_key, Item, Receipt, Carried, LogEntry, BatchStanding, Placed, ordered, KnownPack, known_pack, is_recall_of, is_withdrawal_of, Sent, sent_in, unplaced, is_batch_recalled, AgreeOn, made_batch, pack_made_by, FirstStops, first_stops, standing_at, first_upload, statuses_of, pack_changed, pack_step, pack_grown, SentHistory, sent_of, history_of, PackHistory, sent_status, HaveSameHistory, arith, nat_tests, batch_in, ◌++◌, ◌<◌, suc, zero, nat_eq, get_or, length, subst, cond_both, All-contains, All-from_recursion, AllByRecursion, IsDistinct, HasDistinctStamps, HaveSameAbout, HaveSameEntries, Contains, cons_option, passes, put_in, Ascends, IsPermutation, IsPermutation-cons, IsPermutation-middle, IsPermutation-trans, true, true≢false, filter, append-nil, filter-append, list_any-append, IfSome, option_map_or, option_or, filter_map, bears_on, about, known_pack_from, pack_after_item, batch_standing, held_of, is_recalled_by, is_withdrawn_by, is_status_of, is_upload_of, map-append, All-contains_itself, filter_map-append, recursion_from_All, All-permutation, IsPermutation-refl, IsPermutation-sym, IsPermutation-to_front, IsDistinct-IsPermutation, AllPairs, bytes_eq, lookup, is_same_batch, AreAt, Held, pack_state, Stops, AreStopsOf, entry_at, kept_of, life_of, slice_get}
 use Rattle.mv_repository.proofs.OrderLemmas.{ordered-ascends, by_entries, ordered-push, placed_at, StandsBeforeAll, ordered-of, ordered-stand, filter-all, find-all, order_of}
 use Rattle.mv_repository.proofs.StateLemmas.{known-grown, find-stands, map-stands}
 use Rattle.mv_repository.proofs.TableLemmas.{filter-stand}
@@ -317,3 +317,37 @@ module _ (log : List LogEntry) (pack : PackKey) where
   -- each entry of a history is the one at its place
   pub history-at : AreAt log (history_of pack log)
   history-at = grind (arith, nat_tests, filter-all, find-all, ordered-of)
+
+-- ---- Lemmas on the stamps of a log: they are distinct where none stands at two places
+
+-- the stamp of an item that was carried, and of the one at a place of a log
+abbrev pub stamp_in : Item → Option ℕ
+stamp_in (Carried k stamp message) = Some stamp
+stamp_in (Receipt k reach query) = None
+
+abbrev pub stamp_at : List LogEntry → ℕ → Option ℕ
+stamp_at log place = option_and_then (λ entry. stamp_in entry.item) (slice_get log place)
+
+-- a stamp that stands at two places stands at one
+abbrev pub HasNoStampTwice : List LogEntry → Type 0
+HasNoStampTwice log = (first second stamp : ℕ) → stamp_at log first ≡ Some stamp → stamp_at log second ≡ Some stamp → first ≡ second
+
+abbrev stamps_of : List LogEntry → List ℕ
+stamps_of log = filter_map (λ entry. option_map (λ (sent : Sent). sent.stamp) (sent_in entry.sender entry.item)) log
+
+apart : (a b : ℕ) → (b ≡ a → ⊥) → nat_eq a b ≡ false
+apart a b other = grind (arith, nat_tests)
+
+none : (stamp : ℕ) (log : List LogEntry) → ((place : ℕ) → stamp_at log place ≡ Some stamp → ⊥) → AllByRecursion (λ other. nat_eq stamp other ≡ false) (stamps_of log)
+none stamp [] h = tt
+none stamp (entry ∷ log) h = grind (arith, nat_tests, apart, none stamp log (λ place. h (suc place)), h 0)
+
+-- where no stamp stands at two places, they are distinct
+pub distinct-stamps : (log : List LogEntry) → HasNoStampTwice log → HasDistinctStamps log
+unfolding IsDistinct
+distinct-stamps [] h = tt
+distinct-stamps (entry ∷ log) h =
+    let later = distinct-stamps log (λ first second stamp a b. omega (arith, h (suc first) (suc second) stamp a b)) in
+    let apart : (stamp : ℕ) → stamp_in entry.item ≡ Some stamp → AllByRecursion (λ other. nat_eq stamp other ≡ false) (stamps_of log) =
+    λ stamp e. none stamp log (λ place at. omega (arith, h 0 (suc place) stamp e at)) in
+    grind (arith, nat_tests)

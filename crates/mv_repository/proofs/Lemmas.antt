@@ -3,14 +3,11 @@ pub use Rattle.mv_repository.proofs.Words.{AreAt, AreShelfOf, AreSlots, AreStops
 pub use Rattle.mv_repository.proofs.TrackLemmas.{IsCutFor, parted, put-ascend, put-known, put-late, put-unknown, status-form}
 pub use Rattle.mv_repository.proofs.KeptLemmas.{life_batch, text-self}
 pub use Rattle.mv_repository.proofs.TableLemmas.{log-length, log-split, longer}
-pub use Rattle.mv_repository.proofs.SerialLemmas.{IsShelved, listed_in, no-shelf-yet, serials-at, shelf-kept, shelf-same, shelf-seen, shelf-written, shelved-none, shelves-follow, upload-serials}
+pub use Rattle.mv_repository.proofs.SlotLemmas.{IsShelved, listed_in, no-shelf-yet, serials-at, shelf-kept, shelf-same, shelf-seen, shelf-written, shelved-none, shelves-follow, upload-serials, found-own, is-changed, keys_keyed, none-changed, own-changed, own-kept, own-set, own-there, own-within, spot-none, spot-there, written-behind, written-own, written-there}
 pub use Rattle.mv_repository.proofs.BlockLemmas.{covered-more, fold-cut, last-blocks, late-before, late-front, late-fold, late_within, pass-after, pass-behind, pass-front, renewed}
-pub use Rattle.mv_repository.proofs.UploadLemmas.{ArePacksOf, batch-kept, batch-noted, status-away, status-others, upload-adds, upload-all, upload-away, upload-form, upload-names}
-pub use Rattle.mv_repository.proofs.UploadedLemmas.{count-products, count-recalled, found-any, named-upload, new-more, new_count}
-pub use Rattle.mv_repository.proofs.SlotLemmas.{found-own, is-changed, keys_keyed, none-changed, own-changed, own-kept, own-set, own-there, own-within, spot-none, spot-there, written-behind, written-own, written-there}
+pub use Rattle.mv_repository.proofs.UploadLemmas.{ArePacksOf, batch-kept, batch-noted, status-away, status-others, upload-adds, upload-all, upload-away, upload-form, upload-names, count-products, count-recalled, found-any, named-upload, new-more, new_count}
 pub use Rattle.mv_repository.proofs.CountedLemmas.{active-all, counted-whole, held-all, slots_in}
 pub use Rattle.mv_repository.proofs.StopLemmas.{first_place, recall-added, shelf-again, shelf-empty, stop-away, stop-does, stop-form, stop-leaves, stop-passes, stops-stand, withdrawal-added}
-pub use Rattle.mv_repository.proofs.FormLemmas.{map_err, few-at, few-more, master-in, masters-at, none-noted, on_both, on_err, on_map, other-noted, shelves-at, status-in, stops-at, tables-follow, tables-mastered, tables-noted, tables-same, upload-in}
-pub use Rattle.mv_repository.proofs.ProductLemmas.{comes_late, masters-late-at, masters-latest-at, product_found}
+pub use Rattle.mv_repository.proofs.ProductLemmas.{map_err, few-at, few-more, master-in, masters-at, none-noted, on_both, on_err, on_map, other-noted, shelves-at, status-in, stops-at, tables-follow, tables-mastered, tables-noted, tables-same, upload-in, comes_late, masters-late-at, masters-latest-at, product_found}
 pub use Rattle.mv_repository.proofs.InquiriesLemmas.{answer_noted, inquiry_in, known_stays, receipt_noted, verdict_known}
 pub use Rattle.mv_repository.proofs.HistoryLemmas.{history-at, lent-places}

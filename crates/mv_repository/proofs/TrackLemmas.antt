@@ -4,9 +4,8 @@ use Rattle.mv_repository.proofs.OrderLemmas.{ordered-ascends, ordered-below, ord
 use Rattle.mv_repository.proofs.BlockLemmas.{without-insert}
 use mathlib.Core.Path.{transport}
 use Rattle.mv_repository.proofs.StateLemmas.{entry-stands, map-stands, find-stand, grown-by}
-use Rattle.mv_repository.proofs.BeforeLemmas.{stays_before, counted, find-below, known-before, standing-before}
+use Rattle.mv_repository.proofs.TableLemmas.{stays_before, counted, find-below, known-before, standing-before, longer, newest, newest-stands, filter-ascends, filter-stand, filter-some, find-none, stops-found, stops-stay, StopsNone, put_place, at-newest}
 use Rattle.mv_repository.proofs.KeptLemmas.{same_pack}
-use Rattle.mv_repository.proofs.TableLemmas.{longer, newest, newest-stands, filter-ascends, filter-stand, filter-some, find-none, stops-found, stops-stay, StopsNone, put_place, at-newest}
 use Rattle.mv_repository.specs.declared.effect.Effect.TheVariants as effects
 
 before_get : (log : List LogEntry) (x : Placed) (js : List ℕ) (i d : ℕ) → StandsBeforeAll x (map (entry_at log) js) → i < length js → stands_before x (entry_at log (get_or js i d)) ≡ true

@@ -1,6 +1,6 @@
 -- The set of the batch has the number, and all that it had.
 use Rattle.mv_repository.proofs.Words.{◌≡◌, ℕ, Bool, List, HashSet, CivilDate, LogEntry, Message, Upload, IfSome, Option, Some, arith, bytes_eq, cond, entry_at, lists, lookup, made_batch, message_in, nat_tests, option_and_then, rules, same_text, sym, true, unwrap_or, list_any, ◌==◌}
-use Rattle.mv_repository.proofs.SerialLemmas.{is_in, listed_in, numbers_in}
+use Rattle.mv_repository.proofs.SlotLemmas.{is_in, listed_in, numbers_in}
 use Rattle.mv_repository.proofs.listing.Listing.note.Goals as goal
 
 -- a set is written under a batch, which has all that was there, and a number

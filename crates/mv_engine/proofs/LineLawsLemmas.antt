@@ -1,6 +1,6 @@
 -- The laws of the pieces of an input, and of its lines.
 use Rattle.mv_engine.proofs.Words.{All, All-cons, IsUnended, List, [], append-nil, append_assoc, arith, common_steps, flat_map, flat_map-append, lines_from, lines_of, map, map-append, nat_tests, pieces, refl, rest_from, rules, strip_last, suc, sym, text_lines, unless_empty, whole_from, ℕ, ◌++◌, ◌+◌, ◌∷◌, ◌≡◌}
-use Rattle.mv_engine.proofs.InputLemmas.{whole_from-append, rest_from-append}
+use Rattle.mv_engine.proofs.RepliesLemmas.{whole_from-append, rest_from-append}
 use Rattle.mv_engine.proofs.PartLemmas.{unended_nil, unended_whole, unended_rest}
 
 -- The bytes behind what had begun are its pieces, each with its line feed, and what stands behind the last one.

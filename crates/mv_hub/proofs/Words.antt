@@ -14,7 +14,7 @@ unfoldable pub use Rattle.mv_hub.specs.Targets.{is_reached, reach}
 pub use Rattle.mv_hub.specs.Words.{Global, IsMarket, MARKETS_LIMIT, PartySet, Vec, lookup, place_of, Product, insert_key, BatchKey, Carried, Closed, Entry, HasRoom, IsSquare, Item, Message, PARTIES_LIMIT, Receipt, Routed, Sending, cell, has_party, is_same_batch, insert_all, new_sending, parties_in, pointwise, put}
 pub use Rattle.mv_hub.specs.inside.Kept.{AreTables, Carries, IsKept, IsRouting, PushesItems, PushesRow, carried_by, gain_of, link_at, receipt_to, sent_table, AreNoted, Gathers, LinkTable, catalogue_after, catalogue_in, is_found, linked_in, no_catalogue}
 pub use Rattle.mv_link.proofs.CallerLemmas.{find-none_at, find-those, listed-in}
-pub use Rattle.mv_pairs.proofs.CallerLemmas.{cell-map, cell-put_other, cell-put_same, put-each_pair, put-map, put-map_same, put-read, square-map, square-put, table-all}
+pub use Rattle.mv_pairs.proofs.CallerLemmas.{cell-map, cell-put_other, cell-put_same, put-each_pair, put-map, put-map_same, square-map, square-put, table-all}
 pub use Rattle.std.proofs.Common.{Bool, Contains, List, None, Option, Some, [], ap, append-nil, append_assoc, arith, bytes_eq, cond, drop, drop-cons, eqb, false, find, get_or, inl, inr, length, length-set, map, nat_eq, nat_lt, not, option_to_list, refl, replicate, rules, set, suc, sym, take, true, unwrap_or, zero, ℕ, ◌&&◌, ◌++◌, ◌+◌, ◌-◌, ◌<◌, ◌==◌, ◌||◌, ◌↔◌, ◌∙◌, ◌∷◌, ◌≡◌, ◌≢◌, ◌≤◌, ◌⊎◌}
 pub use Rattle.std.proofs.lemmas.Bool.{and_parts, cases_eq, eq-eqb, ne_eqb}
 pub use Rattle.std.proofs.lemmas.Bool.Decides.{nat_tests}

@@ -2,11 +2,8 @@ pub mod Words
 pub mod MembersLemmas
 pub mod ValueLemmas
 pub mod TokenLemmas
-pub mod WriterLemmas
 pub mod ReadingLemmas
-pub mod ReadsLemmas
 pub mod OrderLemmas
 pub mod MetLemmas
-pub mod PlaceLemmas
 pub mod PartLemmas
 pub mod CallerLemmas

@@ -1,8 +1,7 @@
 -- What stands in the fields of a message: its tokens, and what is read of it.
 use Rattle.mv_json.proofs.Words.{ArePlaced, IsPlace, IsThere, there, ◌≡◌, ◌∙◌, ◌≤◌, ℕ, Bool, true, false, List, [], ◌∷◌, ◌++◌, length, ap, sym, subst, refl, arith, Option, Some, None, Result, Ok, All, is_some, IsUtf8, ◌≢◌, All-map, All-set, AllByRecursion, BeginWith, BeginWithMessage, BeginWithPart, BeginWithTexts, Data, Entry, Field, HasEntries, HasMet, IsCode, IsListOf, IsMarket, IsPart, IsTaken, Message, PackFault, Token, array, as_bool, as_null, as_str, begin_array, entry, entry_name, field_name, get, items, key, list_at, Met, Part, most_markets, most_serials, of_items, read_bytes, read_code, read_market, strings, tokens, value, value-begin_array, value_is, whole_number}
-use Rattle.mv_json.proofs.MetLemmas.{AreMet, one_more_met, weaker}
+use Rattle.mv_json.proofs.MetLemmas.{AreMet, one_more_met, weaker, taken_placed}
 use Rattle.mv_json.proofs.ReadingLemmas.{none_named, Inverts, codes_inverted, markets_inverted, list_agrees}
-use Rattle.mv_json.proofs.PlaceLemmas.{taken_placed}
 use Rattle.mv_json.proofs.ValueLemmas.{utf8_test}
 use Rattle.mv_json.specs.declared.object.Place.{Place}
 use Rattle.std.proofs.Math.Seq.{map-set_same}

@@ -4,7 +4,7 @@ use Rattle.json.proofs.Printed.Decimals.{IsNumber-decimal}
 use Rattle.json.proofs.Printed.Tokens.{tokens-print}
 use Rattle.json.proofs.Printed.Trees.{value-json_tokens, ArePrintable-json_tokens}
 use Rattle.mv_json.proofs.OrderLemmas.{rises, strictly_sorted}
-use Rattle.mv_json.proofs.ReadsLemmas.{reads_back}
+use Rattle.mv_json.proofs.ReadingLemmas.{reads_back}
 use Rattle.mv_json.specs.Keys.{KeysAscend, ItemsKeysAscend}
 use Rattle.serde_json.proofs.Numbers.{number_of-decimal}
 pub use Rattle.std.proofs.lemmas.Str.{IsUtf8-from_is_utf8 as utf8_fact, is_utf8-from_IsUtf8 as utf8_test}

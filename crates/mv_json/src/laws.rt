@@ -3,13 +3,13 @@
 ghost use Rattle.mv_json.specs.Laws.{ReadsBack, ReadsExactly, ReadIsLegal, ReadsOne, FirstFaultIsGiven, FieldsAreInOrder, KeysOfValuesAscend, ValuesSpell};
 
 /// Each legal message is read back from its value.
-#[tactic(auto, using(crate::proofs::ReadsLemmas::reads_back))]
+#[tactic(auto, using(crate::proofs::ReadingLemmas::reads_back))]
 pub fn reads_back()
     ensures { ReadsBack }
 {}
 
 /// The value of a legal message is a spelling of it.
-#[tactic(auto, using(crate::proofs::ReadsLemmas::value_spells))]
+#[tactic(auto, using(crate::proofs::ReadingLemmas::value_spells))]
 pub fn values_spell()
     ensures { ValuesSpell }
 {}
@@ -21,7 +21,7 @@ pub fn reads_exactly()
 {}
 
 /// What is read is legal: its values are those of readers, and its texts and lists keep their limits.
-#[tactic(auto, using(crate::proofs::ReadsLemmas::read_is_legal))]
+#[tactic(auto, using(crate::proofs::ReadingLemmas::read_is_legal))]
 pub fn read_is_legal()
     ensures { ReadIsLegal }
 {}
@@ -38,7 +38,7 @@ pub fn first_fault_is_given()
 {}
 
 /// The fields of a message stand in byte order of their names, each once.
-#[tactic(auto, using(crate::proofs::ReadsLemmas::fields_are_in_order))]
+#[tactic(auto, using(crate::proofs::ReadingLemmas::fields_are_in_order))]
 pub fn fields_are_in_order()
     ensures { FieldsAreInOrder }
 {}

@@ -46,7 +46,7 @@ pub(crate) fn put_object(
 }
 
 /// Writes these members of an object that was begun.
-#[tactic(auto, using(crate::proofs::WriterLemmas::names_plain), unfolding(crate::specs::inside::Tokens::PutsValue))]
+#[tactic(auto, using(crate::proofs::TokenLemmas::names_plain), unfolding(crate::specs::inside::Tokens::PutsValue))]
 pub(crate) fn put_members(
     writer: &mut TextWriter,
     members: &[(Field, Said<'_>)],

@@ -63,7 +63,7 @@ pub(crate) struct Met<'a> {
 
 impl<'a> Met<'a> {
     /// Adds an entry, unless its field was met before or memory is refused, and says whether it did.
-    #[tactic(auto, using(crate::proofs::PlaceLemmas::one_more_placed), unfolding(crate::specs::inside::Parts::ArePlaced))]
+    #[tactic(auto, using(crate::proofs::MetLemmas::one_more_placed), unfolding(crate::specs::inside::Parts::ArePlaced))]
     #[inline(always)]
     pub(crate) fn adds(&mut self, field: Field, part: Part<'a>) -> bool
         ensures added { IsTrue result → self.new.entries.items ≡ self.old.entries.items ++ entry field part.entry ∷ [] }

@@ -74,7 +74,7 @@ impl TextWriter {
     }
 
     /// Begins an object.
-    #[tactic(auto, using(crate::proofs::WriterLemmas::one_put))]
+    #[tactic(auto, using(crate::proofs::TokenLemmas::one_put))]
     pub fn begin_object(&mut self) -> Result<(), AllocError>
         ensures { Puts result self.old self.new (begin_object ∷ []) }
     {
@@ -84,7 +84,7 @@ impl TextWriter {
     }
 
     /// Ends an object.
-    #[tactic(auto, using(crate::proofs::WriterLemmas::end_put))]
+    #[tactic(auto, using(crate::proofs::TokenLemmas::end_put))]
     pub fn end_object(&mut self) -> Result<(), AllocError>
         ensures { Puts result self.old self.new (end_object ∷ []) }
     {
@@ -93,7 +93,7 @@ impl TextWriter {
     }
 
     /// Begins an array.
-    #[tactic(auto, using(crate::proofs::WriterLemmas::one_put))]
+    #[tactic(auto, using(crate::proofs::TokenLemmas::one_put))]
     pub fn begin_array(&mut self) -> Result<(), AllocError>
         ensures { Puts result self.old self.new (begin_array ∷ []) }
     {
@@ -103,7 +103,7 @@ impl TextWriter {
     }
 
     /// Ends an array.
-    #[tactic(auto, using(crate::proofs::WriterLemmas::end_put))]
+    #[tactic(auto, using(crate::proofs::TokenLemmas::end_put))]
     pub fn end_array(&mut self) -> Result<(), AllocError>
         ensures { Puts result self.old self.new (end_array ∷ []) }
     {
@@ -115,7 +115,7 @@ impl TextWriter {
     ///
     /// It is inlined, so that a name that the caller spells out is not tested at run time.
     #[inline(always)]
-    #[tactic(auto, using(crate::proofs::WriterLemmas::key_put))]
+    #[tactic(auto, using(crate::proofs::TokenLemmas::key_put))]
     pub fn key(&mut self, name: &str) -> Result<(), AllocError>
         ensures { Puts result self.old self.new (key name.now ∷ []) }
     {
@@ -127,7 +127,7 @@ impl TextWriter {
 
     /// Writes the key of a member whose name needs no escape, without a look at it.
     #[inline(always)]
-    #[tactic(auto, using(crate::proofs::WriterLemmas::key_put))]
+    #[tactic(auto, using(crate::proofs::TokenLemmas::key_put))]
     pub fn plain_key(&mut self, name: &str) -> Result<(), AllocError>
         requires plain { escape name.now ≡ name.now }
         ensures { Puts result self.old self.new (key name.now ∷ []) }
@@ -139,7 +139,7 @@ impl TextWriter {
     }
 
     /// Writes a text.
-    #[tactic(auto, using(crate::proofs::WriterLemmas::one_put))]
+    #[tactic(auto, using(crate::proofs::TokenLemmas::one_put))]
     pub fn string(&mut self, text: &str) -> Result<(), AllocError>
         ensures { Puts result self.old self.new (string text.now ∷ []) }
     {
@@ -149,7 +149,7 @@ impl TextWriter {
     }
 
     /// Writes a whole number.
-    #[tactic(auto, using(crate::proofs::WriterLemmas::one_put))]
+    #[tactic(auto, using(crate::proofs::TokenLemmas::one_put))]
     pub fn u64(&mut self, n: u64) -> Result<(), AllocError>
         ensures { Puts result self.old self.new (number (decimal n) ∷ []) }
     {
@@ -160,7 +160,7 @@ impl TextWriter {
     }
 
     /// Writes true or false.
-    #[tactic(auto, using(crate::proofs::WriterLemmas::one_put))]
+    #[tactic(auto, using(crate::proofs::TokenLemmas::one_put))]
     pub fn boolean(&mut self, truth: bool) -> Result<(), AllocError>
         ensures { Puts result self.old self.new (boolean truth ∷ []) }
     {
@@ -170,7 +170,7 @@ impl TextWriter {
     }
 
     /// Writes `null`.
-    #[tactic(auto, using(crate::proofs::WriterLemmas::one_put))]
+    #[tactic(auto, using(crate::proofs::TokenLemmas::one_put))]
     pub fn null(&mut self) -> Result<(), AllocError>
         ensures { Puts result self.old self.new (null ∷ []) }
     {
@@ -221,7 +221,7 @@ impl TextWriter {
 
     /// Writes a text in quotes, and an escape for each character that needs one.
     #[cold]
-    #[tactic(auto, using(crate::proofs::WriterLemmas::one_printed))]
+    #[tactic(auto, using(crate::proofs::TokenLemmas::one_printed))]
     #[inline(never)]
     fn escape(&mut self, text: &str) -> Result<(), AllocError>
         ensures before { self.new.before ≡ self.old.before }

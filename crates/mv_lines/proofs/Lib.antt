@@ -1,5 +1,3 @@
 pub mod Words
 pub mod CanonLemmas
-pub mod CheckLemmas
 pub mod StrictLemmas
-pub mod SaidLemmas

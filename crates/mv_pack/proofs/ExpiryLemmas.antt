@@ -4,6 +4,7 @@ use Rattle.mv_pack.proofs.TextLemmas.{passes_at}
 use Rattle.jiff_core.specs.Calendar.{days_from_civil}
 use Rattle.jiff_core.proofs.CalendarLemmas.{day_count-lt_year}
 use Rattle.mv_pack.specs.Expiry.{CivilDate, IsExpiry, day_of, dated, two_digits_at, expiry_text, read_expiry}
+use Rattle.mv_pack.specs.Moment.{IsMoment, read_moment}
 
 -- no day of the range has a negative number
 pub day_from_1970 : (date : CivilDate) → IsExpiry date → pos 0 ≤ℤ day_of date
@@ -32,3 +33,13 @@ read_expiry_is_expiry t date h =
 -- a date's text is read as the date
 pub read_expiry_text : (d : CivilDate) → IsExpiry d → read_expiry (expiry_text d) ≡ Ok d
 read_expiry_text d h = grind (arith, nat_tests)
+
+-- ---- What is read as a moment
+
+-- what is read is a moment
+pub read_moment_is_moment : (seconds moment : ℕ) → read_moment seconds ≡ Ok moment → IsMoment moment
+read_moment_is_moment seconds moment h = grind arith
+
+-- a moment is read as it stands
+pub read_moment_of : (moment : ℕ) → IsMoment moment → read_moment moment ≡ Ok moment
+read_moment_of moment h = grind (arith, nat_tests)

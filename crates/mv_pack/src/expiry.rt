@@ -115,7 +115,7 @@ impl Expiry {
 }
 
 /// The number that the two digits from a place on stand for.
-#[tactic(auto, using(crate::proofs::TextLemmas::passes_at, crate::proofs::GtinLemmas::digit_bounds))]
+#[tactic(auto, using(crate::proofs::TextLemmas::passes_at, crate::proofs::TextLemmas::digit_bounds))]
 fn two_digits_at(place: usize, digits: &[u8]) -> u8
     requires digits { IsTrue (list_all is_digit digits.now) }
     requires within { place + 1 < length digits.now }

@@ -35,7 +35,7 @@ impl Gtin {
     ///
     /// The first of these that holds is the fault: P1, another number of bytes; P2, a byte that is no digit; P3, the
     /// last digit is not the check digit of the others (GS1 General Specifications, section 7.9).
-    #[tactic(auto, using(crate::proofs::GtinLemmas::padded_digits, crate::proofs::GtinLemmas::length_padded))]
+    #[tactic(auto, using(crate::proofs::TextLemmas::padded_digits, crate::proofs::TextLemmas::length_padded))]
     pub fn read(text: &str) -> Result<Gtin, PackFault>
         ensures exact { result ≡ read_gtin text.now }
         ensures accepted { IsOk result ↔ IsGtinText text.now }
@@ -55,7 +55,7 @@ impl Gtin {
     }
 
     /// The 14 digits, as text.
-    #[tactic(auto, using(crate::proofs::GtinLemmas::digits_are_text))]
+    #[tactic(auto, using(crate::proofs::TextLemmas::digits_are_text))]
     pub fn as_str(&self) -> &str
         ensures { result.now ≡ self.now }
     {
@@ -102,7 +102,7 @@ fn padded(digits: &[u8]) -> [u8; 14]
 }
 
 /// The sum of the digits with the weights 3, 1, 3, 1 and so on.
-#[tactic(auto, using(crate::proofs::GtinLemmas::weighted_sum_is_check_sum))]
+#[tactic(auto, using(crate::proofs::TextLemmas::weighted_sum_is_check_sum))]
 fn check_sum(digits: &[u8]) -> u32
     requires short { length digits.now ≤ 14 }
     requires digits { IsTrue (list_all is_digit digits.now) }

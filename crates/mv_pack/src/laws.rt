@@ -14,13 +14,13 @@ use crate::{BatchKey, Expiry, Gtin, Market, Moment, PackKey};
 use std::cmp::Ordering;
 
 /// What is read from a text is a product code of 14 digits.
-#[tactic(auto, using(crate::proofs::GtinLemmas::read_gtin_is_gtin))]
+#[tactic(auto, using(crate::proofs::TextLemmas::read_gtin_is_gtin))]
 pub fn read_gtin_is_gtin()
     ensures { ReadsLegal read_gtin IsGtin }
 {}
 
 /// A product code of 14 digits is read as it stands.
-#[tactic(auto, using(crate::proofs::GtinLemmas::read_gtin_of))]
+#[tactic(auto, using(crate::proofs::TextLemmas::read_gtin_of))]
 pub fn gtin_reads_as_itself()
     ensures { ReadsAsItself read_gtin IsGtin }
 {}
@@ -61,13 +61,13 @@ pub fn expiry_reads_as_itself()
 {}
 
 /// What is read from a number of seconds is a moment.
-#[tactic(auto, using(crate::proofs::MomentLemmas::read_moment_is_moment))]
+#[tactic(auto, using(crate::proofs::ExpiryLemmas::read_moment_is_moment))]
 pub fn read_moment_is_moment()
     ensures { ReadsLegal read_moment IsMoment }
 {}
 
 /// The seconds of a moment are read as that moment.
-#[tactic(auto, using(crate::proofs::MomentLemmas::read_moment_of))]
+#[tactic(auto, using(crate::proofs::ExpiryLemmas::read_moment_of))]
 pub fn moment_reads_as_itself()
     ensures { ReadsAsItself read_moment IsMoment }
 {}

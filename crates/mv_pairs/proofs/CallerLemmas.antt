@@ -59,10 +59,6 @@ table-all f x n t h a =
     (λ k d lt. map-all f x (get_or t k d) (a k d lt) ∙ ap (λ m. replicate m x) (grind (arith, get_or_default t k d [] lt, h.rows, h.row k)))
     ∙ ap (λ m. replicate m (replicate n x)) h.rows
 
--- to put back what was read changes nothing
-pub put-read : {A : Type 0} (t : List (List A)) (s r : ℕ) (v d : A) → v ≡ cell t s r d → put t s r v ≡ t
-put-read t s r v d e = ap (put t s r) e ∙ put-cell t s r d
-
 -- one row of a table, and a write in it
 abbrev items_of : {A : Type 0} → Vec A Global → List A
 items_of row = row.items

@@ -1,4 +1,3 @@
 pub mod Words
 pub mod AnswerLemmas
-pub mod SiteLemmas
 pub mod CallerLemmas

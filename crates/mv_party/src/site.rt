@@ -311,7 +311,7 @@ fn is_query(item: &Item) -> bool
 }
 
 /// How many items of a sender are in a log.
-#[tactic(auto, using(crate::proofs::SiteLemmas::from_counted))]
+#[tactic(auto, using(crate::proofs::AnswerLemmas::from_counted))]
 pub fn count_from(log: &[LogEntry], sender: Party) -> usize
     ensures { result ≡ count_from log.now sender }
 {

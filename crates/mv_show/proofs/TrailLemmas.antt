@@ -1,5 +1,5 @@
 -- The events of a run tell the record, the logs and the submissions: each grows over a step by what the event of the step tells.
-use Rattle.mv_show.proofs.Words.{◌≡◌, ℕ, List, [], ◌++◌, Option, None, option_and_then, option_to_list, arith, IsTrue, nat_tests, Change, drops, Step, Reply, State, Event, event_of_step, Item, Message, SiteState, Some, answer_after, answer_number, ap, append-nil, applied_change, applied_told, asked_change, common_steps, dropped, elements, entry_from, entry_told, enumerate_from, false, get_or, get_or-set_other, get_or-set_same, if◌then◌else◌, is_party, is_query_or_answer, last_of, length, length-append, log_of, map, new_site, nothing, option_map, refl, rules, set, site_of, slice_get, slice_get-behind, submission_told, submissions_of, submitted_change, unless_answer, with_site, ◌+◌, ◌<◌, ◌==◌, ◌∙◌, ◌∷◌, Effect, length-map, map-append, set_past, Answered, AreReplies, AreTold, EventsAreWritten, IsEvent, IsSound, IsTaken, Line, LogsAreTold, Open, RecordIsTold, SubmissionsAreTold, append_assoc, change-sound, event_of, event_text, filter_map, opening, opening-sound, range_with_len, said_texts, step-changes, suc, sym, zero, ⊤, numbered}
+use Rattle.mv_show.proofs.Words.{◌≡◌, ℕ, List, [], ◌++◌, Option, None, option_and_then, option_to_list, arith, IsTrue, nat_tests, Change, drops, Step, Reply, State, Event, event_of_step, Item, Message, SiteState, Some, answer_after, answer_number, ap, append-nil, applied_change, applied_told, asked_change, common_steps, dropped, elements, entry_from, entry_told, enumerate_from, false, get_or, get_or-set_other, get_or-set_same, if◌then◌else◌, is_party, is_query_or_answer, last_of, length, length-append, log_of, map, new_site, nothing, option_map, refl, rules, set, site_of, slice_get, slice_get-behind, submission_told, submissions_of, submitted_change, unless_answer, with_site, ◌+◌, ◌<◌, ◌==◌, ◌∙◌, ◌∷◌, Effect, length-map, map-append, set_past, Answered, AreReplies, AreTold, EventsAreWritten, IsEvent, IsSound, IsTaken, Line, LogsAreTold, Open, RecordIsTold, SubmissionsAreTold, append_assoc, change-sound, event_of, event_text, filter_map, opening, opening-sound, range_with_len, said_texts, step-changes, suc, sym, zero, ⊤, numbered, subst, inr, IfOk, IfErr, Bool, Result, Ok, Err, Entry, line_at, GotNoReply, Readied, said, routed, routing, Says, Tells, event_value, applied, applied_fields, members_where, object}
 use Rattle.mv_machine.specs.Replies.{changes_nothing}
 use Rattle.mv_repository.specs.declared.verdict.Verdict.{Verdict}
 use Rattle.mv_pack.specs.declared.key.PackKey.{PackKey}
@@ -11,6 +11,9 @@ use Rattle.mv_machine.specs.Runs.{Allows}
 use Rattle.mv_format.specs.declared.answered.Answered.TheVariants as answers
 use Rattle.mv_format.specs.declared.line_fault.LineFault.{LineFault}
 use Rattle.mv_format.specs.declared.open_fault.OpenFault.{OpenFault}
+use Rattle.mv_hub.specs.declared.entry.Entry.TheVariants as entries
+use Rattle.mv_machine.specs.declared.reply.Reply.TheVariants as replies
+use Rattle.mv_machine.specs.declared.step.Step.TheVariants as steps
 
 -- what an event, where there is one, tells
 abbrev told : {X : Type 0} → (Event → Option X) → Option Event → List X
@@ -205,3 +208,38 @@ texts-told before lines texts after are = absurd are
 
 pub events_are_written : EventsAreWritten
 events_are_written before lines out after (texts, is, replies) = search (rules, texts-told)
+
+-- ---- What is written of an event
+
+-- what was said of a line's event is what may be written to the line
+pub event_answers : {E : Type 0} (r : Result Bool E) (old new : List ℕ) (line : ℕ) (before : Open) (bytes : List ℕ) (answered : Answered) (after : Open)
+    → IsTaken before bytes answered after → Tells r old new line (event_of answered after)
+    → IfOk r (λ spoken. Readied old new (λ text. IsEvent before (line_at line bytes) (said spoken text) after))
+event_answers r old new line before bytes answered after taken tells = grind (arith, nat_tests)
+
+-- where there was no memory for it, the line was taken all the same
+pub event_unanswered : {E : Type 0} (r : Result Bool E) (line : ℕ) (before : Open) (bytes : List ℕ) (answered : Answered) (after : Open)
+    → IsTaken before bytes answered after → IfErr r (λ _. GotNoReply IsEvent before (line_at line bytes) after)
+event_unanswered (Ok spoken) line before bytes answered after taken = tt
+event_unanswered (Err e) line before bytes answered after taken =
+    inr (option_map (event_text line) (event_of answered after), (answered, taken, refl))
+
+module _ {E : Type 0} (r : Result Bool E) (old new : List ℕ) (line : ℕ) where
+  -- an event that there is was written
+  pub says_tells : (event : Event) → Says r old new (event_value line event) → Tells r old new line (Some event)
+  says_tells event said = assumption said
+
+  -- so it was of a routing, by the entry that it made, the last of so many
+  pub route_tells : (reach : List ℕ) (all : List Entry) (from k : ℕ) (message written : Message)
+      → last_of all ≡ Some (entries.Routed from k message) → written ≡ message
+      → Says r old new (event_value line (routed from k written reach (length all)))
+      → Tells r old new line (routing reach (length all) (last_of all))
+  route_tells reach all from k message written last same said =
+      rw last (says_tells (routed from k message reach (length all)) (subst (λ m. Says r old new (event_value line (routed from k m reach (length all)))) same said))
+
+  -- and of an application, by the last entry of the log
+  pub applied_tells : (from to number : ℕ) (effect : Effect) (answer : Option ℕ) (entry : LogEntry) (item : Item) (reply : Reply) (st : State) → reply ≡ replies.Applied number effect answer
+      → Some entry ≡ last_of (log_of st to) → entry.item ≡ item → Says r old new (object (members_where (applied_fields line to number effect answer entry.sender item)))
+      → Tells r old new line (event_of_step (steps.Apply from to) reply st)
+  applied_tells from to number effect answer entry item reply st is last same said =
+      rw (is, ← last) (says_tells (applied to number effect answer entry) (subst (λ it. Says r old new (object (members_where (applied_fields line to number effect answer entry.sender it)))) (sym same) said))

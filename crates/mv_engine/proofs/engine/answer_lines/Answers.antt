@@ -1,6 +1,5 @@
 use Rattle.mv_engine.proofs.Words.{arith, rules, Consumes-kept, Consumes-whole, Consumes-trans, Appends-trans, err_from_is_err_and, IfErr-weaker, MatchResult-weaker}
-use Rattle.mv_engine.proofs.InputLemmas.{taken_more}
-use Rattle.mv_engine.proofs.ServedLemmas.{unread_at, halted_block, halted_last, served_whole, read_none}
+use Rattle.mv_engine.proofs.RepliesLemmas.{taken_more, unread_at, halted_block, halted_last, served_whole, read_none}
 use Rattle.mv_engine.proofs.engine.answer_lines.Goals as goal
 
 -- the read failed

@@ -57,5 +57,10 @@ pub returns-in_ok-met-in-Verify-3 : goal.returns-in_ok-met-in-Verify-3
 returns-in_ok-met-in-Verify-3 c = IfSome_then c.verify_of.result c.verify_of.ensures (λ step (gtin, serial, reads, codes, is). λ value has.
     request_read c.args.met.now c.in_ok-met.field-0.now c.in_ok-kind.kind _ (search rules) (search rules)
     (rw c.fields.ensures at (c.are_among.ensures c.if-not-are_among.false)) value has
-    (rw (c.in-Verify.is, is, gtin_told c.args.met.now c.in_ok-met-in-Verify.field-0.now gtin (search rules) reads value has, number_told c.args.met.now fields.Party c.in_ok-met-in-Verify-2.field-0 (search rules) value has,
-    serial_told c.args.met.now c.in_ok-met-in-Verify-3.field-0.now serial (search rules) codes value has) refl))
+    (rw (
+      c.in-Verify.is,
+      is,
+      gtin_told c.args.met.now c.in_ok-met-in-Verify.field-0.now gtin (search rules) reads value has,
+      number_told c.args.met.now fields.Party c.in_ok-met-in-Verify-2.field-0 (search rules) value has,
+      serial_told c.args.met.now c.in_ok-met-in-Verify-3.field-0.now serial (search rules) codes value has,
+    ) refl))

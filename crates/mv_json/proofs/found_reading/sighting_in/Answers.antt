@@ -1,5 +1,5 @@
 use Rattle.std.proofs.Common.{refl, rules}
-use Rattle.mv_json.proofs.ReadsLemmas.{pack_read}
+use Rattle.mv_json.proofs.ReadingLemmas.{pack_read}
 use Rattle.mv_json.proofs.found_reading.sighting_in.Goals as goal
 
 pub returns : goal.returns

@@ -1,4 +1,4 @@
-use Rattle.mv_json.proofs.ReadsLemmas.{read_is_spelled, spelled_is_read}
+use Rattle.mv_json.proofs.ReadingLemmas.{read_is_spelled, spelled_is_read}
 use Rattle.mv_json.proofs.laws.reads_exactly.Goals as goal
 
 -- the law as it stands in the lemmas

@@ -1,4 +1,4 @@
-use Rattle.mv_json.proofs.ReadsLemmas.{spelled_is_read}
+use Rattle.mv_json.proofs.ReadingLemmas.{spelled_is_read}
 use Rattle.mv_json.proofs.laws.reads_one.Goals as goal
 
 -- the law as it stands in the lemmas

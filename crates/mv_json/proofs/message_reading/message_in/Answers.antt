@@ -1,5 +1,5 @@
 use Rattle.std.proofs.Common.{◌∙◌, refl, rules}
-use Rattle.mv_json.proofs.ReadsLemmas.{read_by_fields}
+use Rattle.mv_json.proofs.ReadingLemmas.{read_by_fields}
 use Rattle.mv_json.proofs.message_reading.message_in.Goals as goal
 
 pub returns : goal.returns

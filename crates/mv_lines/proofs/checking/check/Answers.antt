@@ -1,4 +1,4 @@
-use Rattle.mv_lines.proofs.CheckLemmas.{messages_of_input, refusals_of_input}
+use Rattle.mv_lines.proofs.CanonLemmas.{messages_of_input, refusals_of_input}
 use Rattle.mv_lines.proofs.checking.check.Goals as goal
 
 -- the refusals went out

@@ -1,6 +1,5 @@
 use Rattle.mv_pack.proofs.Words.{arith, get_or, is_digit}
-use Rattle.mv_pack.proofs.GtinLemmas.{digit_bounds, weight_times_digit, weighted_sum-drop}
-use Rattle.mv_pack.proofs.TextLemmas.{passes_at}
+use Rattle.mv_pack.proofs.TextLemmas.{digit_bounds, weight_times_digit, weighted_sum-drop, passes_at}
 use Rattle.mv_pack.proofs.gtin.check_sum.Goals as goal
 
 -- one digit more, with its weight

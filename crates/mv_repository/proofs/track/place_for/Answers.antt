@@ -1,6 +1,5 @@
 -- What the newest passes or not, it passes or not from the middle to its side.
-use Rattle.mv_repository.proofs.Lemmas.{◌+◌, ◌-◌, arith, parted}
-use Rattle.std.proofs.Common.{◌/◌}
+use Rattle.mv_repository.proofs.Lemmas.{◌+◌, ◌-◌, arith, parted, ◌/◌}
 use Rattle.mv_repository.proofs.Words.{nat_tests}
 use Rattle.mv_repository.proofs.track.place_for.Goals as goal
 

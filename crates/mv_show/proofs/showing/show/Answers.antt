@@ -1,5 +1,5 @@
 use Rattle.std.proofs.Common.{rules}
-use Rattle.mv_show.proofs.ShowingLemmas.{memory_refused}
+use Rattle.mv_show.proofs.GatheringLemmas.{memory_refused}
 use Rattle.mv_show.proofs.showing.show.Goals as goal
 
 -- the input was taken, and then there was no memory for what stands

@@ -1,5 +1,5 @@
 use Rattle.std.proofs.Common.{None, rules}
-use Rattle.mv_show.proofs.ShowingLemmas.{not_shown, refused_at_once, taken_whole}
+use Rattle.mv_show.proofs.GatheringLemmas.{not_shown, refused_at_once, taken_whole}
 use Rattle.mv_show.proofs.showing.take_lines.Goals as goal
 
 pub returns-in-Ok-clause-ok : goal.returns-in-Ok-clause-ok

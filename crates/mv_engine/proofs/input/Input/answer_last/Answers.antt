@@ -1,5 +1,5 @@
 use Rattle.mv_engine.proofs.Words.{err_from_is_err_and}
-use Rattle.mv_engine.proofs.ServedLemmas.{broken}
+use Rattle.mv_engine.proofs.RepliesLemmas.{broken}
 use Rattle.mv_engine.proofs.input.Input.answer_last.Goals as goal
 
 -- the write failed

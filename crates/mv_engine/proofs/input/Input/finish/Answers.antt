@@ -1,5 +1,5 @@
 use Rattle.mv_engine.proofs.Words.{[], refl, rules, err_from_is_err_and}
-use Rattle.mv_engine.proofs.InputLemmas.{part_stopped}
+use Rattle.mv_engine.proofs.RepliesLemmas.{part_stopped}
 use Rattle.mv_engine.proofs.PartLemmas.{unended_nil}
 use Rattle.mv_engine.proofs.input.Input.finish.Goals as goal
 

@@ -1,6 +1,6 @@
 use Rattle.mv_engine.proofs.Words.{IfErr-weaker, append-nil, ap, append_assoc, arith, err_from_is_err_and, on_ok_weaker, [], ◌++◌, ◌∙◌, ◌≡◌}
 use Rattle.mv_engine.proofs.PartLemmas.{cut_line, absent_unended}
-use Rattle.mv_engine.proofs.InputLemmas.{part_taken, stopped_in, stopped_more, taken_more}
+use Rattle.mv_engine.proofs.RepliesLemmas.{part_taken, stopped_in, stopped_more, taken_more}
 use Rattle.mv_engine.proofs.input.Input.take_all.Goals as goal
 
 -- this line stopped it

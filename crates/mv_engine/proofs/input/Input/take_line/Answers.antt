@@ -1,6 +1,6 @@
 use Rattle.mv_engine.proofs.Words.{arith, append-nil, sym, [], ◌∙◌, common_steps, err_from_is_err_and, rules}
 use Rattle.mv_engine.proofs.PartLemmas.{unended_rest, unended_whole}
-use Rattle.mv_engine.proofs.InputLemmas.{line_unanswered, none_may_follow, rest_from-append, stopped_in, whole_from-append}
+use Rattle.mv_engine.proofs.RepliesLemmas.{line_unanswered, none_may_follow, rest_from-append, stopped_in, whole_from-append}
 use Rattle.mv_engine.proofs.input.Input.take_line.Goals as goal
 
 -- the line may not be so long, or no line may follow

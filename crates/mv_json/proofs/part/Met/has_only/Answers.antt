@@ -1,5 +1,5 @@
 use Rattle.mv_json.proofs.Words.{arith, Contains-get_or, IsOneOf, field_number}
-use Rattle.mv_json.proofs.PlaceLemmas.{one_more_marked}
+use Rattle.mv_json.proofs.MetLemmas.{one_more_marked}
 use Rattle.mv_json.proofs.part.Met.has_only.Goals as goal
 
 pub loop-field-init : goal.loop-field-init

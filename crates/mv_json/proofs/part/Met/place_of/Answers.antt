@@ -1,5 +1,5 @@
 use Rattle.mv_json.proofs.Words.{arith, get_or, get_or_default, ◌-◌}
-use Rattle.mv_json.proofs.PlaceLemmas.{number_apart}
+use Rattle.mv_json.proofs.MetLemmas.{number_apart}
 use Rattle.mv_json.proofs.part.Met.place_of.Goals as goal
 
 pub returns : goal.returns

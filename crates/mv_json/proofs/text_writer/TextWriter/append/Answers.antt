@@ -1,4 +1,4 @@
-use Rattle.mv_json.proofs.WriterLemmas.{stays_utf8}
+use Rattle.mv_json.proofs.TokenLemmas.{stays_utf8}
 use Rattle.mv_json.proofs.text_writer.TextWriter.append.Goals as goal
 
 -- a text is UTF-8

@@ -1,4 +1,4 @@
-use Rattle.mv_json.proofs.WriterLemmas.{ascii_utf8, stays_utf8}
+use Rattle.mv_json.proofs.TokenLemmas.{ascii_utf8, stays_utf8}
 use Rattle.mv_json.proofs.text_writer.TextWriter.put.Goals as goal
 
 -- so is an ASCII character behind it

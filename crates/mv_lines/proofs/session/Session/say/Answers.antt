@@ -3,7 +3,7 @@ use Rattle.mv_format.specs.Requests.{read_line}
 use Rattle.mv_format.specs.declared.answered.Answered.TheVariants.{NotTaken, Stepped}
 use Rattle.mv_format.specs.declared.open_fault.OpenFault.TheVariants.{NotOpen}
 use Rattle.mv_format.specs.declared.request.Request.TheVariants as requests
-use Rattle.mv_lines.proofs.SaidLemmas.{said}
+use Rattle.mv_lines.proofs.StrictLemmas.{said}
 use Rattle.mv_lines.specs.Sessions.{IsTaken}
 use Rattle.mv_lines.proofs.session.Session.say.Goals as goal
 

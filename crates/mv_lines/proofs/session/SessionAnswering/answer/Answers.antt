@@ -1,5 +1,5 @@
 use Rattle.mv_lines.proofs.Words.{IfErr, Result, Ok, Err, rules}
-use Rattle.mv_lines.proofs.SaidLemmas.{not_said}
+use Rattle.mv_lines.proofs.StrictLemmas.{not_said}
 use Rattle.mv_engine.specs.Lines.{line_at}
 use Rattle.mv_lines.proofs.session.SessionAnswering.answer.Goals as goal
 

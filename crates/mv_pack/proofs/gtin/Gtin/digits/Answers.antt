@@ -1,5 +1,5 @@
 use Rattle.std.proofs.Common.{arith}
-use Rattle.mv_pack.proofs.GtinLemmas.{all_values}
+use Rattle.mv_pack.proofs.TextLemmas.{all_values}
 use Rattle.mv_pack.proofs.gtin.Gtin.digits.Goals as goal
 
 -- each number is that of the byte at its place

@@ -1,7 +1,7 @@
 -- The item, the answer and the count go in together.
 use Rattle.mv_party.proofs.Words.{arith, ◌<◌, length}
 use Rattle.std.proofs.lemmas.List.{get_or_read}
-use Rattle.mv_party.proofs.SiteLemmas.{applied_kept}
+use Rattle.mv_party.proofs.AnswerLemmas.{applied_kept}
 use Rattle.mv_party.proofs.site.Site.accept.Goals as goal
 
 pub invariant_of-self-2 : goal.invariant_of-self-2

@@ -1,6 +1,6 @@
 -- One more submission.
 use Rattle.mv_party.proofs.Words.{arith, length, site_of}
-use Rattle.mv_party.proofs.SiteLemmas.{submitted_kept}
+use Rattle.mv_party.proofs.AnswerLemmas.{submitted_kept}
 use Rattle.mv_party.proofs.site.Site.put.Goals as goal
 
 pub invariant_of-self-2 : goal.invariant_of-self-2

@@ -1,5 +1,4 @@
-use Rattle.std.proofs.Common.{◌≡◌, Err, Ok, OnOk, Result, is_ok, sym, true, true≢false}
-use Rattle.mv_repository.proofs.Lemmas.{arith, common_steps, rules, refl, known_stays, receipt_noted, answer_noted}
+use Rattle.mv_repository.proofs.Lemmas.{arith, common_steps, rules, refl, known_stays, receipt_noted, answer_noted, ◌≡◌, Err, Ok, OnOk, Result, is_ok, sym, true, true≢false}
 use Rattle.mv_repository.proofs.inquiries.Inquiries.note.Goals as goal
 
 -- the item tells of no query of the party

@@ -1,8 +1,5 @@
 -- The first works out the packs that it may bear on; any other changes none.
-use Rattle.mv_repository.proofs.Lemmas.{◌≡◌, ◌∙◌, AreStopsOf, arith, bytes_eq, comes_first, nat_tests, rules, ap, refl, subst, sym, get_or, take, true, false, Option, None, lookup, unwrap_or, ShelfParts, AreShelfOf, first_place, no_shelf, recall-added, shelf_of, no_entry, stopped_product, shelf-empty, few-at, masters-at, shelves-at, shelved-none, tables-follow, tables-same, stop-form, stop-does, stop-leaves, stop-away, stops-stand, withdrawal-added, AreTablesOf, Bool, effect_of, lasting_effect, not, HasFirst, Tables, is_recall_of, is_same_batch, is_withdrawal_of}
-use Rattle.std.specs.Prelude.{is_ok}
-use Rattle.mv_repository.proofs.Words.{OnOk, Result}
-use Rattle.mv_repository.proofs.KeptLemmas.{first-added}
+use Rattle.mv_repository.proofs.Lemmas.{◌≡◌, ◌∙◌, AreStopsOf, arith, bytes_eq, comes_first, nat_tests, rules, ap, refl, subst, sym, get_or, take, true, false, Option, None, lookup, unwrap_or, ShelfParts, AreShelfOf, first_place, no_shelf, recall-added, shelf_of, no_entry, stopped_product, shelf-empty, few-at, masters-at, shelves-at, shelved-none, tables-follow, tables-same, stop-form, stop-does, stop-leaves, stop-away, stops-stand, withdrawal-added, AreTablesOf, Bool, effect_of, lasting_effect, not, HasFirst, Tables, is_recall_of, is_same_batch, is_withdrawal_of, is_ok, OnOk, Result, first-added}
 use Rattle.mv_repository.proofs.tables.Tables.add_stop.Goals.{After-comes_first, Else-not-is_kept, in-OfBatch, in-OfBatch-stop, in-OfProduct, in-OfProduct-stop}
 use Rattle.mv_repository.proofs.tables.Tables.add_stop.Goals as goal
 

@@ -1,4 +1,4 @@
-use Rattle.mv_show.proofs.EventLemmas.{applied_tells}
+use Rattle.mv_show.proofs.TrailLemmas.{applied_tells}
 use Rattle.mv_show.proofs.event.Teller.tell_apply.Goals as goal
 
 -- a receipt

@@ -1,6 +1,6 @@
 use Rattle.std.proofs.Common.{◌∙◌, sym, ap, Some, option_copied}
 use Rattle.mv_hub.specs.Hub.{HubState}
-use Rattle.mv_show.proofs.EventLemmas.{route_tells}
+use Rattle.mv_show.proofs.TrailLemmas.{route_tells}
 use Rattle.mv_show.proofs.event.Teller.tell_route.Goals as goal
 
 -- the last entry of the record is that of the routing

@@ -1,4 +1,4 @@
-use Rattle.mv_show.proofs.EventLemmas.{event_answers, event_unanswered}
+use Rattle.mv_show.proofs.TrailLemmas.{event_answers, event_unanswered}
 use Rattle.mv_show.proofs.trailing.RecorderAnswering.answer.Goals as goal
 
 -- the line was taken, and its event written

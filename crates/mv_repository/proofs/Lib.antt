@@ -3,7 +3,6 @@ pub mod OrderLemmas
 pub mod StateLemmas
 pub mod KeptLemmas
 pub mod TableLemmas
-pub mod BlockLemmas
 pub mod TrackLemmas
 pub mod UploadLemmas
 pub mod SlotLemmas

@@ -1,8 +1,8 @@
 -- What a recall and a withdrawal do: their effects, the tables that find the first, and the packs on which they bear, which are worked out
 -- again, also without need.
-use Rattle.mv_repository.proofs.Words.{FirstStops, ListingTable, is_listed, lists, ap, subst, made_batch, option_and_then, AreFirstsOf, AreStopsOf, BatchKey, Bool, HasFirst, IfSome, IsShelfOf, Item, List, LogEntry, Option, Own, PackKey, Placed, ShelfTable, Some, Stop, Stops, [], arith, batch_key, bytes_eq, comes_first, common_steps, effect_after, effect_of, entries_before, false, find, first_stops, first_upload, get_or, is_master, is_recall_of, is_same_batch, is_status_of, is_stop, is_upload_of, is_withdrawal_of, lasting_effect, length, life_of, list_any, lookup, may_stop, nat_tests, next_by, no_entry, not, option_map, ordered, pack_key, place_of, recalled_in, rules, same_text, stopped_product, sym, take, true, true≢false, withdrawn_in, ℕ, ◌+◌, ◌∙◌, ◌∷◌, ◌≡◌, None, refl, Slot, Made, stops_in, IsAgain, IsPackOf, IsRefreshed, AreShelfOf, shelf_by, kept_by, no_shelf, nothing_kept, IsKept, Kept, statuses_of}
+use Rattle.mv_repository.proofs.Words.{FirstStops, ListingTable, is_listed, lists, ap, subst, made_batch, option_and_then, AreFirstsOf, AreStopsOf, BatchKey, Bool, IfSome, IsShelfOf, Item, List, LogEntry, Option, Own, PackKey, Placed, ShelfTable, Some, Stop, Stops, [], arith, batch_key, bytes_eq, comes_first, common_steps, effect_after, effect_of, entries_before, false, find, first_stops, first_upload, get_or, is_master, is_recall_of, is_same_batch, is_status_of, is_stop, is_upload_of, is_withdrawal_of, lasting_effect, length, life_of, list_any, lookup, may_stop, nat_tests, next_by, no_entry, not, option_map, ordered, pack_key, place_of, recalled_in, rules, same_text, stopped_product, sym, take, true, true≢false, withdrawn_in, ℕ, ◌+◌, ◌∙◌, ◌∷◌, ◌≡◌, None, refl, Slot, Made, stops_in, IsAgain, IsPackOf, IsRefreshed, AreShelfOf, shelf_by, kept_by, no_shelf, nothing_kept, IsKept, Kept, statuses_of}
 use Rattle.mv_repository.proofs.TableLemmas.{any-before, NamesNone, NoPack, at-newest, filter-none, find-later, find-none, find-some, longer, newest, recalls-stay, withdrawals-stay, log-split}
-use Rattle.mv_repository.proofs.KeptLemmas.{life_batch, same_batch, batch-self, text-self, key_stays, once-all, one-recall, one-withdrawal}
+use Rattle.mv_repository.proofs.KeptLemmas.{HasFirst, life_batch, same_batch, batch-self, text-self, key_stays, once-all, one-recall, one-withdrawal}
 use Rattle.mv_repository.proofs.OrderLemmas.{ordered-ascends, ordered-below}
 use Rattle.mv_repository.proofs.SlotLemmas.{AreSamePacks, serials-at}
 use Rattle.mv_repository.proofs.UploadLemmas.{first-effect}

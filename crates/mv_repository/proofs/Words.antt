@@ -22,7 +22,7 @@ pub use Rattle.mv_repository.specs.declared.inquiries.Inquiry.{Inquiry}
 pub use Rattle.mv_repository.specs.declared.tables.Tables.{Tables}
 pub use Rattle.mv_repository.specs.inside.Shelf.{AreShelfOf, AreSlots, IsEntered, IsNamed, IsSpot, IsWritten, SlotTable, Writes, keyed, no_slot, serial_hash, serial_of, serials_uploaded, IsAgain, IsChanged, IsPackOf, IsPut, IsRefreshed, IsShelfOf, IsUploadOf, ListingTable, ShelfParts, ShelfTable, is_counted, is_listed, kept_by, kept_in, listing_of, lists, may_stop, no_shelf, nothing_kept, shelf_by, shelf_of}
 pub use Rattle.mv_repository.specs.inside.Tables.{AreTablesOf, IsInquiriesOf, has_reply, inquiry_after, inquiry_of, is_master, query_of}
-pub use Rattle.mv_repository.specs.inside.Track.{AreAt, AreBlocks, AreFirstsOf, AreStopsOf, HasFirst, IsCovered, IsCut, IsFront, IsKept, IsSummary, IsTrack, Kept, Life, change_in, comes_first, effect_from, effect_in, effect_on, history_at, is_stop, known_at, life_of, made_batch, next_by, next_in, next_place, place_of, stopped_product, stops_in, kept_of, without, standing_of}
+pub use Rattle.mv_repository.specs.inside.Track.{AreAt, AreBlocks, AreFirstsOf, AreStopsOf, IsCovered, IsCut, IsFront, IsKept, IsSummary, IsTrack, Kept, Life, change_in, comes_first, effect_from, effect_in, effect_on, history_at, is_stop, known_at, life_of, made_batch, next_by, next_in, next_place, place_of, stopped_product, stops_in, kept_of, without, standing_of}
 pub use Rattle.std.proofs.Common.{Bool, IfSome, List, None, OnErr, OnOk, Option, Result, Some, [], ap, append-nil, append_assoc, arith, cond, drop, false, filter, find, fold, get_or, get_or-set_other, inl, inr, insert, is_some, length, length-append, map, min, nat_eq, nat_lt, not, refl, rules, set, subst, suc, sym, take, true, true≢false, zero, ℕ, ◌∙◌, is_ok, Err, Ok, ◌/◌}
 pub use Rattle.std.proofs.Math.Bool.{or-false, or-true}
 pub use Rattle.std.proofs.Math.ListN.{drop_of_length-le, length-set}

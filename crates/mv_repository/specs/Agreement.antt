@@ -1,5 +1,6 @@
 -- What of a log bears on one pack, and what decides the pack; and what two logs agree on that have the same of it.
-use Rattle.mv_repository.specs.Words.{ℕ, nat_eq, List, Bool, false, filter, Option, Some, None, bytes_eq, filter_map, Contains, option_map, option_map_or, PackKey, Message, Upload, Status, Withdraw, Item, Receipt, Carried, LogEntry, IsDistinct, Recall, is_same_pack, is_same_batch, batch_key, map, option_and_then, BatchStanding, ◌≡◌, ◌↔◌}
+use Rattle.std.specs.Prelude.{◌≡◌, ◌↔◌}
+use Rattle.mv_repository.specs.Words.{ℕ, nat_eq, List, Bool, false, filter, Option, Some, None, bytes_eq, filter_map, Contains, option_map, option_map_or, PackKey, Message, Upload, Status, Withdraw, Item, Receipt, Carried, LogEntry, IsDistinct, Recall, is_same_pack, is_same_batch, batch_key, map, option_and_then, BatchStanding}
 use Rattle.mv_repository.specs.Order.{Placed, ordered}
 use Rattle.mv_repository.specs.Pack.{KnownChange, KnownPack, has_pack, known_pack, pack_state, is_recalled, is_withdrawn}
 use Rattle.mv_repository.specs.Verdict.{local_verdict}

@@ -1,6 +1,7 @@
 -- What bears on packs in a log. What stops a batch for ever: its first recall, and the first withdrawal of its product, by the order of
 -- stamps; which batches a log recalls, and which products it withdraws; and a pack by its first upload and its statuses alone.
-use Rattle.mv_repository.specs.Words.{ℕ, List, [], find, get_or, Bool, false, Option, Some, None, bytes_eq, flat_map, insert_all, option_map_or, BatchKey, Withdraw, Item, Receipt, Carried, Message, LogEntry, BatchStanding, is_same_batch, option_and_then, option_map, Upload, Status, batch_key, fold, filter, PackKey, is_same_pack, ◌∷◌, if◌then◌else◌}
+use Rattle.std.specs.Prelude.{◌∷◌, if◌then◌else◌}
+use Rattle.mv_repository.specs.Words.{ℕ, List, [], find, get_or, Bool, false, Option, Some, None, bytes_eq, flat_map, insert_all, option_map_or, BatchKey, Withdraw, Item, Receipt, Carried, Message, LogEntry, BatchStanding, is_same_batch, option_and_then, option_map, Upload, Status, batch_key, fold, filter, PackKey, is_same_pack}
 use Rattle.mv_repository.specs.Order.{Placed, stands_before}
 use Rattle.mv_repository.specs.Pack.{is_recall_of, is_withdrawal_of, KnownPack, new_pack, has_pack, pack_after_status}
 use Rattle.mv_repository.specs.Repository.{recalled_in}

@@ -1,6 +1,7 @@
 -- A log in the order of the hub's stamps, which have 32 bits: carried entries by stamp, those of one stamp in the order of the
 -- log, and behind them the receipts in the order of the log.
-use Rattle.mv_repository.specs.Words.{⊤, ℕ, List, [], fold, length, Bool, true, nat_lt, Some, slice_get, AllByRecursion, Item, Receipt, Carried, LogEntry, ◌≡◌, ◌∷◌, ◌^◌, ◌||◌, ◌&&◌, ◌==◌, if◌then◌else◌}
+use Rattle.std.specs.Prelude.{◌≡◌, ◌∷◌, ◌^◌, ◌||◌, ◌&&◌, ◌==◌, if◌then◌else◌}
+use Rattle.mv_repository.specs.Words.{⊤, ℕ, List, [], fold, length, Bool, true, nat_lt, Some, slice_get, AllByRecursion, Item, Receipt, Carried, LogEntry}
 
 -- an entry with its place in the log
 pub record Placed : Type 0 where

@@ -1,6 +1,7 @@
 -- What a repository knows of a pack, of a batch and of a product: what one status does to a pack, and what a log means for one pack, whose
 -- entries are read in the order of stamps (Delegated Regulation (EU) 2016/161, Articles 13, 36 and 40); and what applying an entry does.
-use Rattle.mv_repository.specs.Words.{ℕ, nat_lt, List, not, Bool, true, false, Option, Some, None, bytes_eq, Standing, Effect, BatchStanding, [], IfSome, slice_get, list_any, option_map, option_or, PackKey, BatchKey, Upload, Status, Withdraw, Item, Carried, LogEntry, Recall, Held, is_same_pack, is_same_batch, batch_key, length, filter, is_some, codes, option_map_or, distinct_count, Master, pack_key, ◌≡◌, ◌∷◌, ◌++◌, ◌+◌, ◌*◌, ◌==◌, ◌&&◌, if◌then◌else◌, ◌-◌}
+use Rattle.std.specs.Prelude.{◌≡◌, ◌∷◌, ◌++◌, ◌+◌, ◌*◌, ◌==◌, ◌&&◌, if◌then◌else◌, ◌-◌}
+use Rattle.mv_repository.specs.Words.{ℕ, nat_lt, List, not, Bool, true, false, Option, Some, None, bytes_eq, Standing, Effect, BatchStanding, [], IfSome, slice_get, list_any, option_map, option_or, PackKey, BatchKey, Upload, Status, Withdraw, Item, Carried, LogEntry, Recall, Held, is_same_pack, is_same_batch, batch_key, length, filter, is_some, codes, option_map_or, distinct_count, Master, pack_key}
 use Rattle.mv_pack.specs.Expiry.{CivilDate, seconds_of_day, is_expired_at}
 use Rattle.mv_message.specs.declared.standing.Standing.TheVariants as standings
 use Rattle.mv_repository.specs.declared.effect.Effect.TheVariants as effects

@@ -1,7 +1,8 @@
 -- What a repository is seen as: its party, and its log, the complete record of what it applied (Regulation (EU) 2016/161, Article
 -- 35(1)), the oldest entry first. No table is part of it. Its products, packs and verdicts go by stamp order, and what is listed goes in
 -- the order of arrival.
-use Rattle.mv_repository.specs.Words.{ℕ, List, [], Option, Some, None, bytes_eq, filter_map, last_or, Master, Product, Item, Carried, LogEntry, map, filter, length, false, flat_map, option_map_or, distinct_count, PackKey, BatchKey, Upload, Status, insert_all, Counts, Recall, is_same_pack, is_same_batch, pack_key, ◌∷◌, ◌++◌, if◌then◌else◌, ◌==◌}
+use Rattle.std.specs.Prelude.{◌∷◌, ◌++◌, if◌then◌else◌, ◌==◌}
+use Rattle.mv_repository.specs.Words.{ℕ, List, [], Option, Some, None, bytes_eq, filter_map, last_or, Master, Product, Item, Carried, LogEntry, map, filter, length, false, flat_map, option_map_or, distinct_count, PackKey, BatchKey, Upload, Status, insert_all, Counts, Recall, is_same_pack, is_same_batch, pack_key}
 use Rattle.mv_repository.specs.Order.{ordered}
 use Rattle.mv_repository.specs.Pack.{is_active, pack_state}
 

@@ -1,6 +1,7 @@
 -- What a query finds, and the answers that a log calls for; and whether a pack is authentic: by one repository, and by the answers of all
 -- that were asked (Delegated Regulation (EU) 2016/161, Articles 11 and 36).
-use Rattle.mv_repository.specs.Words.{ℕ, List, [], Option, Some, None, option_to_list, option_map_or, PackKey, Message, Query, Answer, Found, Item, Carried, LogEntry, batch_key, not, Bool, true, false, length, filter, is_some, list_any, option_or, Receipt, Verdict, Authentic, NotAuthentic, Local, Joint, NotAsked, Pending, Decided, ◌==◌, ◌&&◌, ◌||◌, ◌∷◌, ◌++◌, if◌then◌else◌}
+use Rattle.std.specs.Prelude.{◌==◌, ◌&&◌, ◌||◌, ◌∷◌, ◌++◌, if◌then◌else◌}
+use Rattle.mv_repository.specs.Words.{ℕ, List, [], Option, Some, None, option_to_list, option_map_or, PackKey, Message, Query, Answer, Found, Item, Carried, LogEntry, batch_key, not, Bool, true, false, length, filter, is_some, list_any, option_or, Receipt, Verdict, Authentic, NotAuthentic, Local, Joint, NotAsked, Pending, Decided}
 use Rattle.mv_message.specs.declared.standing.Standing.TheVariants as standings
 use Rattle.mv_message.specs.declared.found.Found.TheVariants as founds
 use Rattle.mv_repository.specs.declared.verdict.Local.TheVariants.{Absent, Known}

@@ -36,5 +36,5 @@ pub use Rattle.std.specs.Iterator.{YieldsFirstRef, item_count}
 pub use Rattle.std.specs.List.{AllByRecursion, Contains, IsDistinct, filter_map, flat_map, last_or, list_any}
 pub use Rattle.std.specs.Map.{keys_of, lookup}
 pub use Rattle.std.specs.Option.{option_and_then, option_copied, option_map, option_map_or, option_or, unwrap_or}
-pub use Rattle.std.specs.Prelude.{Bool, IfOk, IfSome, IsTrue, List, MatchOption, None, OnErr, OnOk, Option, Some, [], bytes_eq, codes, drop, false, filter, find, fold, get_or, is_some, length, map, nat_eq, nat_lt, not, option_to_list, slice_get, take, true, ⊤, ℕ, ◌≡◌, ◌↔◌, ◌∷◌, if◌then◌else◌, ◌^◌, ◌||◌, ◌&&◌, ◌==◌, ◌++◌, ◌+◌, ◌*◌, ◌-◌, ◌<◌, ◌≤◌, ◌%◌}
+pub use Rattle.std.specs.Prelude.{Bool, IfOk, IfSome, IsTrue, List, MatchOption, None, OnErr, OnOk, Option, Some, [], bytes_eq, codes, drop, false, filter, find, fold, get_or, is_some, length, map, nat_eq, nat_lt, not, option_to_list, slice_get, take, true, ⊤, ℕ}
 pub use Rattle.std.specs.Set.{distinct_count}

@@ -1,10 +1,11 @@
 -- What is kept of each pack of a product: a pack that has no status has a slot alone, and each other a track. The serial number of a pack
 -- stands in the upload that made it, or among the names of the packs that have a track.
+use Rattle.std.specs.Prelude.{◌≡◌, ◌==◌, ◌||◌, ◌<◌, ◌≤◌, if◌then◌else◌}
 use Rattle.mv_index.specs.Hashes.{short_hash}
 use Rattle.mv_pack.specs.Code.{code_pieces}
 use Rattle.mv_repository.specs.declared.listing.Listing.{Listing}
 use Rattle.mv_repository.specs.declared.slots.Spot.{Spot}
-use Rattle.mv_repository.specs.Words.{ℕ, List, [], get_or, Bool, true, false, Option, Some, None, IfSome, bytes_eq, keys_of, lookup, option_and_then, option_map_or, is_some, not, Counted, Active, Every, Slot, Made, Own, list_any, Upload, Item, Carried, LogEntry, insert_key, pack_key, unwrap_or, Stop, OfBatch, OfProduct, length, map, AllByRecursion, IsDistinct, ◌≡◌, ◌==◌, ◌||◌, ◌<◌, ◌≤◌, if◌then◌else◌}
+use Rattle.mv_repository.specs.Words.{ℕ, List, [], get_or, Bool, true, false, Option, Some, None, IfSome, bytes_eq, keys_of, lookup, option_and_then, option_map_or, is_some, not, Counted, Active, Every, Slot, Made, Own, list_any, Upload, Item, Carried, LogEntry, insert_key, pack_key, unwrap_or, Stop, OfBatch, OfProduct, length, map, AllByRecursion, IsDistinct}
 use Rattle.mv_repository.specs.inside.Track.{comes_first, made_batch, Kept, Life, life_of, IsKept, IsTrack}
 use Rattle.mv_repository.specs.Bearing.{FirstStops, entry_at}
 use Rattle.mv_repository.specs.Repository.{serials_of}

@@ -1,5 +1,6 @@
 -- What a repository keeps beside its log: the tables of its products and packs, and what it knows of its own queries.
-use Rattle.mv_repository.specs.Words.{ℕ, Bool, false, nat_eq, length, filter, last_or, bytes_eq, List, Option, Some, None, list_any, option_or, lookup, Master, Answer, Item, Receipt, Carried, LogEntry, option_map, ◌≡◌, ◌≤◌, ◌*◌, ◌&&◌, ◌||◌, ◌==◌, if◌then◌else◌, unwrap_or}
+use Rattle.std.specs.Prelude.{◌≡◌, ◌≤◌, ◌*◌, ◌&&◌, ◌||◌, ◌==◌, if◌then◌else◌, unwrap_or}
+use Rattle.mv_repository.specs.Words.{ℕ, Bool, false, nat_eq, length, filter, last_or, bytes_eq, List, Option, Some, None, list_any, option_or, lookup, Master, Answer, Item, Receipt, Carried, LogEntry, option_map}
 use Rattle.mv_repository.specs.declared.inquiries.Inquiries.{Inquiries}
 use Rattle.mv_repository.specs.declared.inquiries.Inquiry.{Inquiry}
 use Rattle.mv_repository.specs.declared.tables.Tables.{Tables}

@@ -1,7 +1,8 @@
 -- By what a pack is worked out, and what is kept of it, by places in the log: the stops of its batch and of its product, what
 -- each of its statuses does, the entry by which it stands behind them, and what many of them do that stand one behind the other;
 -- and its history.
-use Rattle.mv_repository.specs.Words.{ℕ, List, find, Bool, true, Option, Some, bytes_eq, flat_map, lookup, keys_of, option_map, option_map_or, insert_all, insert_key, Item, LogEntry, Stop, Stops, OfBatch, OfProduct, is_same_batch, [], take, None, option_and_then, BatchKey, Standing, Message, Status, Effect, BatchStanding, batch_key, ⊤, length, drop, AllByRecursion, PARTIES_LIMIT, PartySet, map, fold, PackKey, Block, IfSome, slice_get, ◌≡◌, if◌then◌else◌, ◌≤◌, ◌+◌, ◌%◌, ◌∷◌, ◌++◌, ◌&&◌}
+use Rattle.std.specs.Prelude.{◌≡◌, if◌then◌else◌, ◌≤◌, ◌+◌, ◌%◌, ◌∷◌, ◌++◌, ◌&&◌}
+use Rattle.mv_repository.specs.Words.{ℕ, List, find, Bool, true, Option, Some, bytes_eq, flat_map, lookup, keys_of, option_map, option_map_or, insert_all, insert_key, Item, LogEntry, Stop, Stops, OfBatch, OfProduct, is_same_batch, [], take, None, option_and_then, BatchKey, Standing, Message, Status, Effect, BatchStanding, batch_key, ⊤, length, drop, AllByRecursion, PARTIES_LIMIT, PartySet, map, fold, PackKey, Block, IfSome, slice_get}
 use Rattle.mv_repository.specs.Order.{Placed, passes, ordered, stands_before}
 use Rattle.mv_repository.specs.Pack.{is_recall_of, is_withdrawal_of, effect_of, KnownPack, KnownChange, is_active, is_done, change_effect}
 use Rattle.mv_repository.specs.Repository.{recalled_in}
@@ -48,12 +49,6 @@ pub record AreStopsOf (log : List LogEntry) (tables : Stops) : Type 0 where
 -- the newest entry comes first: there is none so far, or it stands before the first so far, which is at that place
 abbrev pub comes_first : List LogEntry → ℕ → Option ℕ → Bool
 comes_first log new first = option_map_or (λ one. passes (entry_at log new) (entry_at log one)) first true
-
--- a table of keys once the newest entry, which is under one of them, is added to it: the earlier of it and the first so far stays
-pub record HasFirst {K : Type 0} (same : K → K → Bool) (log : List LogEntry) (new : ℕ) (key : K) (before after : List (K × ℕ)) : Type 0 where
-  pub places : (other : K) → lookup (same other) after
-      ≡ (if same key other && comes_first log new (lookup (same key) before) then Some new else lookup (same other) before)
-  pub keys : keys_of after ≡ insert_key same (keys_of before) key
 
 -- the batch of the packs that an entry uploads
 abbrev pub made_batch : Placed → Option (List ℕ)

@@ -1,6 +1,6 @@
 -- One block further.
 use Rattle.mv_repository.proofs.Lemmas.{arith, refl, entry_at, next_in, get_or_default, common_steps}
-use Rattle.mv_repository.proofs.BlockLemmas.{cut_next}
+use Rattle.mv_repository.proofs.TrackLemmas.{cut_next}
 use Rattle.mv_repository.proofs.blocks.cut_at.Goals as goal
 
 pub loop-cut-preserved : goal.loop-cut-preserved

@@ -1,5 +1,5 @@
 -- Blocks of statuses, over any places and any rule by which a pack goes from one to the next.
-use Rattle.mv_repository.proofs.Words.{AllByRecursion, AreBlocks, Block, Cut, IsCovered, IsCut, IsFront, IsSummary, List, PARTIES_LIMIT, PartySet, Placed, [], ap, append-nil, append_assoc, arith, at_drop_more, common_steps, drop, drop-append-le, drop-drop, drop_at, drop_of_length-le, elements, fold, fold-append, get_or, get_or_default, has_party, insert, length, length-append, length-drop, length-take-le, nat_tests, set, subst, suc, sym, take, take-add, take-append-drop, take-append-le, take_at, take_more_set, true, without, zero, ℕ, ◌%◌, ◌++◌, ◌+◌, ◌-◌, ◌<◌, ◌∙◌, ◌∷◌, ◌≡◌, ◌≤◌, AreStopsOf, Ascends, BatchKey, BatchStanding, Carried, Effect, FirstStops, IfSome, IsKept, IsTrack, Item, Kept, KnownPack, LogEntry, None, Option, PackKey, Some, Status, Stops, batch_key, batch_standing, change_effect, cond, cond_both, drop-map, effect_after, effect_from, effect_of, effect_on, entries_before, entry_at, false, filter, first_stops, first_upload, get_or-insert_at, is_active, is_done, is_master, is_same_pack, is_status_of, is_upload_of, known_pack, length-map, life_of, map, message_in, next_by, next_place, no_entry, option_map, option_map_or, ordered, pack_grown, place_of, refl, rules, standing_at, statuses_of, stops_in, take-map, kept_of, true≢false, uploaded_in, not, Bool, passes, stands_before, IsPartitionPoint, standing_of}
+use Rattle.mv_repository.proofs.Words.{AllByRecursion, AreBlocks, Block, Cut, IsCovered, IsCut, IsFront, IsSummary, List, PARTIES_LIMIT, PartySet, Placed, [], ap, append-nil, append_assoc, arith, at_drop_more, common_steps, drop, drop-append-le, drop-drop, drop_at, drop_of_length-le, elements, fold, fold-append, get_or, get_or_default, has_party, insert, length, length-append, length-drop, length-take-le, nat_tests, set, subst, suc, sym, take, take-add, take-append-drop, take-append-le, take_at, take_more_set, true, without, zero, ℕ, ◌%◌, ◌++◌, ◌+◌, ◌-◌, ◌<◌, ◌∙◌, ◌∷◌, ◌≡◌, ◌≤◌, AreStopsOf, Ascends, BatchKey, BatchStanding, Carried, Effect, FirstStops, IfSome, IsKept, IsTrack, Item, Kept, KnownPack, LogEntry, None, Option, PackKey, Some, Status, Stops, batch_key, batch_standing, change_effect, cond, cond_both, drop-map, effect_after, effect_from, effect_of, effect_on, entries_before, entry_at, false, filter, first_stops, first_upload, get_or-insert_at, is_active, is_done, is_master, is_same_pack, is_status_of, is_upload_of, known_pack, length-map, life_of, map, message_in, next_by, next_place, no_entry, option_map, option_map_or, ordered, pack_grown, place_of, refl, rules, standing_at, statuses_of, stops_in, take-map, kept_of, true≢false, uploaded_in, not, Bool, passes, stands_before, IsPartitionedBy, IsPartitionPoint, standing_of}
 use Rattle.mv_repository.proofs.OrderLemmas.{ordered-ascends, ordered-below, ordered-stand, Stand, still-stand, StandsBeforeAll}
 use mathlib.Core.Path.{transport}
 use Rattle.mv_repository.proofs.StateLemmas.{entry-stands, map-stands, find-stand, grown-by}
@@ -129,18 +129,20 @@ before_get log x [] i d h l = absurd (omega arith)
 before_get log x (j ∷ js) zero d h l = h.0
 before_get log x (j ∷ js) (suc i) d h l = before_get log x js i d h.1 (omega arith)
 
+pub not_twice : (b c : Bool) → not b ≡ c → b ≡ not c
+not_twice b c e = grind (arith, nat_tests)
+
 module _ (log : List LogEntry) (new : ℕ) where
   -- the newest does not pass the entry at a place
-  abbrev stays_at : ℕ → Bool
+  abbrev pub stays_at : ℕ → Bool
   stays_at place = not (passes (entry_at log new) (entry_at log place))
 
   -- what passes one passes all from there on
-  pub parted : (places : List ℕ) → Ascends (map (entry_at log) places) → (i j d e : ℕ) → i ≤ j → j < length places
-      → passes (entry_at log new) (entry_at log (get_or places i d)) ≡ true → passes (entry_at log new) (entry_at log (get_or places j e)) ≡ true
-  parted [] a i j d e h l p = absurd (omega arith)
-  parted (p ∷ ps) a zero zero d e h l is = is
-  parted (p ∷ ps) a zero (suc j) d e h l is = grind (arith, nat_tests, before_get log (entry_at log p) ps j e a.0)
-  parted (p ∷ ps) a (suc i) j d e h l is = grind (arith, nat_tests, parted ps a.1 i)
+  pub parted : (places : List ℕ) → Ascends (map (entry_at log) places) → IsPartitionedBy stays_at places
+  parted [] a i j d h l e = absurd (omega arith)
+  parted (p ∷ ps) a zero zero d h l e = e
+  parted (p ∷ ps) a zero (suc j) d h l e = grind (arith, nat_tests, before_get log (entry_at log p) ps j d a.0)
+  parted (p ∷ ps) a (suc i) j d h l e = grind (arith, nat_tests, parted ps a.1 i)
 
   -- those places whose entries the newest does not pass
   abbrev pub places_before : List ℕ → List ℕ

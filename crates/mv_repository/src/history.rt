@@ -189,9 +189,7 @@ impl<'a> Iterator for Statuses<'a> {
     ghost remaining = { item_count (λ it. it) };
 
     fn next(&mut self) -> Option<&'a LogEntry> {
-        let Some((place, rest)) = self.statuses.split_first() else {
-            return None;
-        };
+        let (place, rest) = self.statuses.split_first()?;
         self.statuses = rest;
         self.log.get(*place as usize)
     }

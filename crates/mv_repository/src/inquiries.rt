@@ -7,7 +7,7 @@ ghost use Rattle.std.specs.Prelude.{◌≡◌, ◌≤◌, ◌∷◌, ◌++◌, �
 ghost use Rattle.mv_repository.specs.Clauses.{AnEntry, IsInquiriesOf, List, OnOk, [], inquiry_after, joint_verdict, query_of, ℕ, map_spare, set_spare};
 
 use crate::Joint;
-use crate::verdict::{findings, verdict_when};
+use crate::verdict::{found_active, found_explained, verdict_when};
 use indexmap::{IndexMap, IndexSet};
 use mv_link::{Item, Reached};
 use mv_message::{Message, Party};
@@ -68,8 +68,9 @@ impl Inquiries {
         };
         inquiry.or_insert(unknown).note(item);
         if let Item::Carried { .. } = item {
-            // There is room for it.
-            let _ = self.replies.insert((query, sender));
+            let Ok(_) = self.replies.insert((query, sender)) else {
+                unreachable!();
+            };
         }
     }
 
@@ -88,7 +89,7 @@ impl Inquiries {
         let parties = asked.as_slice();
         let mut left = 0;
         for other in parties {
-            left += !self.replies.contains(&(q, *other)) as u32;
+            left += u32::from(!self.replies.contains(&(q, *other)));
         }
         if left == 0 {
             Joint::Decided(verdict_when(inquiry.active, inquiry.explained))
@@ -109,9 +110,8 @@ impl Inquiry {
             }
             Item::Carried { message, .. } => {
                 if let Message::Answer { found, .. } = message.get() {
-                    let (active, explained) = findings(found);
-                    self.active |= active;
-                    self.explained |= explained;
+                    self.active = self.active || found_active(found);
+                    self.explained = self.explained || found_explained(found);
                 }
             }
         }

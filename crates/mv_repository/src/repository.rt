@@ -10,7 +10,7 @@ use crate::shelf::Counted;
 use crate::state::held_at;
 use crate::stops::Stops;
 use crate::tables::Tables;
-use crate::verdict::{findings, verdict_when};
+use crate::verdict::{found_active, found_explained, verdict_when};
 use crate::{Effect, FromSender, Held, History, Joint, Local, LogEntry, ProductSerials};
 use indexmap::{IndexMap, IndexSet};
 use mv_link::Item;
@@ -258,10 +258,7 @@ impl Repository {
     {
         match self.found(key) {
             Found::Absent => Local::Absent,
-            found => {
-                let (active, explained) = findings(&found);
-                Local::Known(verdict_when(active, explained))
-            }
+            found => Local::Known(verdict_when(found_active(&found), found_explained(&found))),
         }
     }
 

@@ -19,17 +19,11 @@ fn place_for(log: &[LogEntry], statuses: &[u32], new: u32) -> usize
     ensures cut { IsPartitionPoint (λ place. passes (entry_at log.now new) (entry_at log.now place) ≡ false)
         (λ place. passes (entry_at log.now new) (entry_at log.now place) ≡ true) statuses.now result }
 {
-    let mut low = 0;
-    let mut high = statuses.len();
-    while low < high {
-        let middle = low + (high - low) / 2;
-        if passes(log, new, statuses[middle]) {
-            high = middle;
-        } else {
-            low = middle + 1;
-        }
-    }
-    low
+    statuses.partition_point(
+        |place: &u32| -> bool
+            ensures { result ≡ not (passes (entry_at log.entry.now new) (entry_at log.entry.now place.now)) }
+        { !passes(log, new, *place) },
+    )
 }
 
 /// What is kept of a pack.

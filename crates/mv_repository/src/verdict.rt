@@ -35,24 +35,22 @@ pub enum Joint {
     Decided(Verdict),
 }
 
-/// Whether a pack was found active, and whether it was found recalled, withdrawn, or to be destroyed: something other than a
-/// falsification explains it.
-pub(crate) fn findings(found: &Found) -> (bool, bool)
-    ensures active { result.0 ≡ found_active found.now }
-    ensures explained { result.1 ≡ found_explained found.now }
+/// Whether a pack was found active.
+pub(crate) fn found_active(found: &Found) -> bool
+    ensures { result ≡ found_active found.now }
 {
-    match found {
-        Found::Present {
-            standing,
-            recalled,
-            withdrawn,
-            ..
-        } => (
-            is_active(*standing),
-            *recalled || *withdrawn || matches!(standing, Standing::Destruction),
-        ),
-        Found::Absent => (false, false),
-    }
+    matches!(found, Found::Present { standing, .. } if is_active(*standing))
+}
+
+/// Whether a pack was found recalled, withdrawn, or to be destroyed: something other than a falsification explains it.
+pub(crate) fn found_explained(found: &Found) -> bool
+    ensures { result ≡ found_explained found.now }
+{
+    matches!(
+        found,
+        Found::Present { standing, recalled, withdrawn, .. }
+            if *recalled || *withdrawn || matches!(standing, Standing::Destruction)
+    )
 }
 
 /// The verdict where a pack was found active or not, and explained or not by something other than a falsification.

@@ -86,6 +86,7 @@ pub record ListingTable : Type 0 where
   pub is_whole : Bool
   pub numbers : List (List ℕ × List ℕ)
 
+-- what a listing says of batches
 abbrev pub listing_of : Listing → ListingTable
 listing_of listing = record { is_whole = listing.is_whole; numbers = map (λ entry. (entry.0, entry.1.keys)) listing.batches.entries }
 

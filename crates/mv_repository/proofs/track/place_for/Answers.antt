@@ -1,12 +1,11 @@
--- What the newest passes or not, it passes or not from the middle to its side.
-use Rattle.mv_repository.proofs.Lemmas.{◌+◌, ◌-◌, arith, parted, ◌/◌}
-use Rattle.mv_repository.proofs.Words.{nat_tests}
+-- The newest goes behind the last that it does not pass.
+use Rattle.mv_repository.proofs.Lemmas.{rules, not_twice, true, false, stays_at, parted}
+use Rattle.std.proofs.Common.{of_calls}
+use Rattle.std.proofs.lemmas.Fn.{always_returns_same}
 use Rattle.mv_repository.proofs.track.place_for.Goals as goal
 
-pub loop-low-preserved-then-passes : goal.loop-low-preserved-then-passes
-loop-low-preserved-then-passes c = let loop = c.loop-low.invariant in
-    record { order = omega arith; within = omega (arith, loop.order, loop.within, c.loop-low-test.true); front = loop.front; back = λ k d from l. parted c.args.log.now c.args.new c.args.statuses.now c.requires.ascend _ k 0 d from l (grind arith) }
-
-pub loop-low-preserved : goal.loop-low-preserved
-loop-low-preserved c = let loop = c.loop-low.invariant in
-    record { order = omega (arith, c.loop-low-test.true); within = loop.within; front = λ k d from l. grind (arith, nat_tests, parted c.args.log.now c.args.new c.args.statuses.now c.requires.ascend k (c.loop-low.low + (c.loop-low.high - c.loop-low.low) / 2) d 0); back = loop.back }
+pub returns-clause-cut : goal.returns-clause-cut
+returns-clause-cut c = let parts =
+    c.partition_point.ensures.partitioned (stays_at c.args.log.now c.args.new) (always_returns_same _ _ _ (λ a r f k. search (rules, of_calls)))
+    (parted c.args.log.now c.args.new c.args.statuses.now c.requires.ascend) in
+    (λ i d h g. not_twice _ true (parts.0 i d h g), λ i d h g. not_twice _ false (parts.1 i d h g))

@@ -185,6 +185,7 @@ fn takes_field<'a>(
 }
 
 /// Takes a whole number of 32 bits.
+#[inline(always)]
 fn take_number(reader: &mut Reader<'_>) -> Option<u32>
     ensures { IfSome result (λ number. BeginWithPart reader.old (Number number) reader.new) }
 {

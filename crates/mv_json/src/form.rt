@@ -82,6 +82,7 @@ pub(crate) fn form_named(version: Version, name: &str) -> Option<Form>
 }
 
 /// The form of an object: M3, M5.
+#[inline(always)]
 #[tactic(auto, unfolding(crate::specs::Shapes::form_at))]
 pub(crate) fn form_at(object: &Object<'_>, version: Version) -> Result<Form, MessageFault>
     ensures { Gives (form_at version) object.now result }

@@ -21,6 +21,7 @@ use mv_pack::{BatchKey, PackKey};
 use std::alloc::Global;
 
 /// The message of a form that the fields of an object give.
+#[inline(always)]
 #[tactic(auto)]
 pub(crate) fn message_at(
     alloc: Global,

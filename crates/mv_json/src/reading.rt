@@ -57,6 +57,7 @@ pub(crate) fn gtin_at(object: &Object<'_>, field: Field) -> Result<Gtin, Message
 }
 
 /// The serial number of a field: M3, M5, M6.
+#[inline(always)]
 pub(crate) fn serial_at(object: &Object<'_>, field: Field) -> Result<Serial, MessageFault>
     ensures { Gives (read_at as_str read_code field) object.now result }
 {

@@ -149,6 +149,7 @@ impl TextWriter {
     }
 
     /// Writes a whole number.
+    #[inline(always)]
     #[tactic(auto, using(crate::proofs::TokenLemmas::one_put))]
     pub fn u64(&mut self, n: u64) -> Result<(), AllocError>
         ensures { Puts result self.old self.new (number (decimal n) ∷ []) }

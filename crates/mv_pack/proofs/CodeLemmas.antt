@@ -1,9 +1,10 @@
 -- What is read as a serial, batch or national number.
-use Rattle.mv_pack.proofs.Words.{Bool, Err, IsCode, IsFilledUp, IsUtf8, List, None, Ok, [], ap, ap₂, append_assoc, arith, cond, count_by, count_by-le-length, drop, drop-drop, drop-replicate, filled_up, first_wrong, is_code_character, is_filled, length, length-drop, length-take-le, list_all, most_code_bytes, nat_tests, not, position_from, read_code, refl, replicate, subst, sum_by-cons, sum_by-replicate, sum_by-take-drop, sym, take, take-append-drop, take-append-le, take-take, take_all, take_rest, text_before, true, ℕ, ◌++◌, ◌+◌, ◌-◌, ◌==◌, ◌∙◌, ◌∷◌, ◌≡◌, ◌≤◌, ◌↔◌}
+use Rattle.mv_pack.proofs.Words.{Bool, Err, IsCode, IsFilledUp, IsUtf8, List, None, Ok, [], ap, ap₂, append_assoc, arith, cond, count_by, count_by-le-length, drop, drop-drop, drop-replicate, filled_up, first_wrong, is_code_character, is_filled, length, length-drop, length-take-le, list_all, most_code_bytes, nat_tests, not, get_or, ◌<◌, zero, suc, position_from, read_code, refl, replicate, subst, sum_by-cons, sum_by-replicate, sum_by-take-drop, sym, take, take-append-drop, take-append-le, take-take, take_all, take_rest, text_before, true, ℕ, ◌++◌, ◌+◌, ◌-◌, ◌==◌, ◌∙◌, ◌∷◌, ◌≡◌, ◌≤◌, ◌↔◌}
 use Rattle.std.proofs.Math.Seq.{drop-append-add, take-append_seam}
 use Rattle.std.proofs.lemmas.Bool.{eqb-true}
 use borrow.Rule.Slice.PartMut.{put_mid}
 use Rattle.mv_pack.proofs.TextLemmas.{text_of_ascii}
+use Rattle.std.proofs.lemmas.Str.{IsUtf8-from_ascii}
 use Rattle.mv_pack.specs.declared.fault.PackFault.{PackFault}
 
 -- no wrong element is found exactly where all are right
@@ -31,6 +32,18 @@ read_code_is_code t c h = grind (arith, no_wrong_byte)
 -- codes are text
 pub codes_are_text : (text : List ℕ) → IsCode text → IsUtf8 text
 codes_are_text text code = text_of_ascii is_code_character (λ byte h. grind (arith, nat_tests)) text code.2
+
+-- the bytes of a code and the zeros behind it are ASCII
+filled_below : (text : List ℕ) (count i : ℕ) → list_all is_code_character text ≡ true → get_or (text ++ replicate count 0) i 0 < 128
+filled_below [] zero i all = grind arith
+filled_below [] (suc count) zero all = grind arith
+filled_below [] (suc count) (suc i) all = filled_below [] count i all
+filled_below (byte ∷ text) count zero all = grind (arith, nat_tests)
+filled_below (byte ∷ text) count (suc i) all = grind (arith, filled_below text count i)
+
+-- a code with zeros behind it is text
+pub filled_up_is_text : (bytes : List ℕ) → IsFilledUp bytes → IsUtf8 bytes
+filled_up_is_text bytes filled = subst IsUtf8 (sym filled.1) (IsUtf8-from_ascii _ (λ i. filled_below (text_before bytes) _ i filled.0.2))
 
 count_cons : (p : ℕ → Bool) (byte : ℕ) (text : List ℕ) → count_by p (byte ∷ text) ≡ cond (p byte) 1 0 + count_by p text
 count_cons p byte text = sum_by-cons (λ x. cond (p x) 1 0) byte text

@@ -1,5 +1,5 @@
 -- Texts whose bytes pass a test, and readings that choose by a test.
-use Rattle.mv_pack.proofs.Words.{Bool, Err, IsUtf8, List, Ok, Result, arith, common_steps, cond, get_or, length, list_all, list_all_at, true, ℕ, ◌<◌, ◌≡◌, IsGtin, at_drop_more, check_sum, get_or-map, is_digit, length-map, length-replicate, list_all-append, nat_tests, padded, read_gtin, same_number_lists, sum_by-cons}
+use Rattle.mv_pack.proofs.Words.{Bool, IsUtf8, List, Ok, arith, common_steps, get_or, length, list_all, list_all_at, true, ℕ, ◌<◌, ◌≡◌, IsGtin, at_drop_more, check_sum, get_or-map, is_digit, length-map, length-replicate, list_all-append, nat_tests, padded, read_gtin, same_number_lists, sum_by-cons}
 use Rattle.std.proofs.lemmas.Str.{IsUtf8-from_ascii}
 use Rattle.std.proofs.Common.{◌≡◌, ℕ, zero, suc, ◌+◌, ◌-◌, ◌*◌, ◌<◌, ◌≤◌, List, [], ◌∷◌, true, length, get_or, map, drop, ◌∙◌, replicate, length-append, refl, arith, IsUtf8, Ok}
 

@@ -114,6 +114,15 @@ fn filled_up(text: &[u8]) -> [u8; MOST_CODE_BYTES]
     bytes
 }
 
+/// The text of a code, and the zeros behind it, which are text too.
+#[tactic(auto, using(crate::proofs::CodeLemmas::filled_up_is_text))]
+fn with_zeros(bytes: &[u8; MOST_CODE_BYTES]) -> &str
+    requires { IsFilledUp bytes.now }
+    ensures { result.now ≡ bytes.now }
+{
+    text_of(bytes)
+}
+
 /// What stands before the zeros.
 fn text_before(bytes: &[u8; MOST_CODE_BYTES]) -> &[u8]
     requires { IsFilledUp bytes.now }
@@ -212,10 +221,9 @@ impl<K> PartialEq for Code<K> {
 
     ghost laws = { partial_equiv_from_equiv nat_list_eq_equiv };
 
-    // As slices, which a function of the library compares: arrays are compared in place, for which a look-up takes the bytes of
-    // its key apart before it knows whether there is anything to compare it with.
+    // With the zeros behind them: texts of 20 bytes are compared eight bytes at a time, where bytes would be compared one by one.
     fn eq(&self, other: &Self) -> bool {
-        self.bytes.as_slice() == other.bytes.as_slice()
+        with_zeros(&self.bytes) == with_zeros(&other.bytes)
     }
 }
 

@@ -90,6 +90,7 @@ impl Shelf {
     }
 
     /// Where a serial number stands.
+    #[inline(always)]
     pub fn find(&self, log: &[LogEntry], serial: &Serial) -> Spot
         requires { AreSlots log.now self.now.table }
         ensures { IsSpot log.now self.now.table serial.now result }

@@ -15,6 +15,7 @@ use mv_repository::Local;
 impl World {
     /// Takes one step.
     #[tactic(auto)]
+    #[inline(always)]
     pub(super) fn take_step(&mut self, step: &Step) -> Result<Reply, Refusal>
         ensures { Allows self.old step.now (reply_of result) self.new }
     {

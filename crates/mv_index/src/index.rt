@@ -100,6 +100,7 @@ impl HashIndex {
     }
 
     /// The number of what has a hash, and is what is looked for. Only of what has this hash it is asked whether it is.
+    #[inline(always)]
     pub fn find<F: Fn(usize) -> bool>(&self, hash: u32, is_it: F) -> Option<usize>
         requires { (number : ℕ) → number < length self.now.hashes → F.pre is_it number }
         ensures within { IfSome result (λ number. number < length self.now.hashes) }

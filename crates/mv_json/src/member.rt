@@ -62,6 +62,7 @@ pub(crate) fn put_members(
 
 /// Writes what stands under a name.
 #[tactic(auto, unfolding(crate::specs::inside::Tokens::PutsValue))]
+#[inline(always)]
 pub(crate) fn put_said(writer: &mut TextWriter, said: Said<'_>) -> Result<(), AllocError>
     ensures { PutsValue result writer.old writer.new (said_value said.entry) }
 {

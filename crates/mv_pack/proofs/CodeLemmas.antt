@@ -1,5 +1,5 @@
 -- What is read as a serial, batch or national number.
-use Rattle.mv_pack.proofs.Words.{Bool, Err, IsCode, IsFilledUp, IsUtf8, List, None, Ok, [], ap, ap₂, append_assoc, arith, cond, count_by, count_by-le-length, drop, drop-drop, drop-replicate, filled_up, first_wrong, is_code_character, is_filled, length, length-drop, length-take-le, list_all, most_code_bytes, nat_tests, not, get_or, ◌<◌, zero, suc, position_from, read_code, refl, replicate, subst, sum_by-cons, sum_by-replicate, sum_by-take-drop, sym, take, take-append-drop, take-append-le, take-take, take_all, take_rest, text_before, true, ℕ, ◌++◌, ◌+◌, ◌-◌, ◌==◌, ◌∙◌, ◌∷◌, ◌≡◌, ◌≤◌, ◌↔◌}
+use Rattle.mv_pack.proofs.Words.{common_steps, Bool, Err, IsCode, IsFilledUp, IsUtf8, List, None, Ok, [], ap, ap₂, append_assoc, arith, cond, count_by, count_by-le-length, drop, drop-drop, drop-replicate, filled_up, first_wrong, is_code_character, is_filled, length, length-drop, length-take-le, list_all, most_code_bytes, nat_tests, not, get_or, ◌<◌, zero, suc, position_from, read_code, refl, replicate, subst, sum_by-cons, sum_by-replicate, sum_by-take-drop, sym, take, take-append-drop, take-append-le, take-take, take_all, take_rest, text_before, true, ℕ, ◌++◌, ◌+◌, ◌-◌, ◌==◌, ◌∙◌, ◌∷◌, ◌≡◌, ◌≤◌, ◌↔◌}
 use Rattle.std.proofs.Math.Seq.{drop-append-add, take-append_seam}
 use Rattle.std.proofs.lemmas.Bool.{eqb-true}
 use borrow.Rule.Slice.PartMut.{put_mid}
@@ -35,9 +35,7 @@ codes_are_text text code = text_of_ascii is_code_character (λ byte h. grind (ar
 
 -- the bytes of a code and the zeros behind it are ASCII
 filled_below : (text : List ℕ) (count i : ℕ) → list_all is_code_character text ≡ true → get_or (text ++ replicate count 0) i 0 < 128
-filled_below [] zero i all = grind arith
-filled_below [] (suc count) zero all = grind arith
-filled_below [] (suc count) (suc i) all = filled_below [] count i all
+filled_below [] count i all = grind (arith, common_steps)
 filled_below (byte ∷ text) count zero all = grind (arith, nat_tests)
 filled_below (byte ∷ text) count (suc i) all = grind (arith, filled_below text count i)
 

@@ -1,11 +1,11 @@
 //! The fields of a line as they are met, in any order, and what stands in each.
 
 ghost use Rattle.std.specs.Prelude.{◌≡◌, IsTrue, None, is_some, true};
-ghost use Rattle.mv_json.specs.inside.Parts.{IsOneOf};
 ghost use Rattle.mv_format.specs.declared.field.LineField.{LineField as AField};
-ghost use Rattle.mv_format.specs.inside.LineFields.{met_of};
+ghost use Rattle.mv_format.specs.inside.LineFields.{HasField, met_of};
 
 use crate::LineField;
+use crate::kind::LineKind;
 use mv_message::{Message, Shared};
 
 /// What stands in the fields that were met of a line that asks a step.
@@ -32,19 +32,19 @@ pub(crate) struct LineFields<'a> {
 }
 
 impl LineFields<'_> {
-    /// Whether each field that was met is one of these.
-    pub(crate) fn are_among(&self, fields: &[LineField]) -> bool
-        ensures { IsTrue result → (field : AField) → is_some (met_of self.now field) ≡ true → IsOneOf fields.now field }
+    /// Whether lines of this kind have each field that was met.
+    pub(crate) fn are_of(&self, kind: LineKind) -> bool
+        ensures { IsTrue result → (field : AField) → is_some (met_of self.now field) ≡ true → HasField kind field }
     {
-        is_among(&self.asked, LineField::Do, fields)
-            && is_among(&self.from, LineField::From, fields)
-            && is_among(&self.gtin, LineField::Gtin, fields)
-            && is_among(&self.message, LineField::Message, fields)
-            && is_among(&self.number, LineField::Number, fields)
-            && is_among(&self.party, LineField::Party, fields)
-            && is_among(&self.q, LineField::Q, fields)
-            && is_among(&self.serial, LineField::Serial, fields)
-            && is_among(&self.to, LineField::To, fields)
+        is_of(&self.asked, kind, LineField::Do)
+            && is_of(&self.from, kind, LineField::From)
+            && is_of(&self.gtin, kind, LineField::Gtin)
+            && is_of(&self.message, kind, LineField::Message)
+            && is_of(&self.number, kind, LineField::Number)
+            && is_of(&self.party, kind, LineField::Party)
+            && is_of(&self.q, kind, LineField::Q)
+            && is_of(&self.serial, kind, LineField::Serial)
+            && is_of(&self.to, kind, LineField::To)
     }
 }
 
@@ -60,11 +60,10 @@ pub(crate) fn puts<T: Drop>(place: &mut Option<T>, value: Option<T>) -> bool
     true
 }
 
-/// Whether a field was not met, or is one of these.
+/// Whether a field was not met, or lines of this kind have it.
 #[inline(always)]
-#[tactic(auto, unfolding(mv_json::specs::inside::Parts::IsOneOf))]
-fn is_among<T>(met: &Option<T>, field: LineField, fields: &[LineField]) -> bool
-    ensures { IsTrue result → is_some met.now ≡ true → IsOneOf fields.now field }
+fn is_of<T>(met: &Option<T>, kind: LineKind, field: LineField) -> bool
+    ensures { IsTrue result → is_some met.now ≡ true → HasField kind field }
 {
-    met.is_none() || fields.contains(&field)
+    met.is_none() || kind.has(field)
 }

@@ -58,7 +58,7 @@ fn step_met(met: &mut LineFields<'_>) -> Option<Step>
     ensures { IfSome result (λ step. (value : Data) → HasFields value met.old → read_request value ≡ Ok (Request.Step step)) }
 {
     let kind = kind_called(met.asked?)?;
-    if !met.are_among(kind.fields()) {
+    if !met.are_of(kind) {
         return None;
     }
     match kind {

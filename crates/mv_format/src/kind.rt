@@ -73,7 +73,6 @@ impl LineKind {
 }
 
 /// The kind of that name. Those that come most are asked for first.
-#[inline(always)]
 pub(crate) fn kind_called(name: &str) -> Option<LineKind>
     ensures { result ≡ kind_named name.now }
 {

@@ -80,7 +80,7 @@ impl ToJson for Reply {
     fn write(&self, writer: &mut TextWriter) -> Result<(), AllocError> {
         match self {
             Reply::Submitted { k } => write_numbered(writer, "submitted", *k),
-            Reply::Routed { k, reach } => write_routed(writer, *k, reach),
+            Reply::Routed { k, reach } => write_routed(writer, *k, reach.copy()),
             Reply::Relayed { number } => write_numbered(writer, "relayed", *number),
             Reply::Known(verdict) => write_verdict(writer, Joint::Decided(*verdict)),
             Reply::Asked { q } => write_numbered(writer, "asked", *q),
@@ -177,12 +177,12 @@ fn write_numbered(writer: &mut TextWriter, key: &'static str, number: u32) -> Re
     writer.end_object()
 }
 
-/// Writes the reply that a message was routed, and to whom.
+/// Writes the reply that a message was routed, and to whom. That is a copy: the compiler copies each reply whose address may be kept.
 #[inline(never)]
-fn write_routed(writer: &mut TextWriter, k: u32, reach: &Reached) -> Result<(), AllocError>
-    ensures { Adds result writer.old writer.new (reply_value (Reply.Routed k reach.now)) }
+fn write_routed(writer: &mut TextWriter, k: u32, reach: Reached) -> Result<(), AllocError>
+    ensures { Adds result writer.old writer.new (reply_value (Reply.Routed k reach)) }
 {
-    let members = [Parties("reach", reach), Number("routed", k as u64)];
+    let members = [Parties("reach", &reach), Number("routed", k as u64)];
     write_object(writer, &members)
 }
 

@@ -31,22 +31,11 @@ pub fn read_step(alloc: Global, scratch: &mut Scratch, line: &[u8]) -> Option<St
         return None;
     }
     let mut reader = Reader::new(text, scratch);
-    let step = take_step(alloc, &mut reader)?;
-    if !reader.is_done() {
-        return None;
-    }
-    Some(step)
-}
-
-/// Takes the step that the object asks which is next.
-fn take_step(alloc: Global, reader: &mut Reader<'_>) -> Option<Step>
-    ensures { IfSome result (λ step. Asks reader.old (Request.Step step) reader.new) }
-{
     if !reader.takes_opening() {
         return None;
     }
     let mut met = LineFields::default();
-    if !takes_members(alloc, reader, &mut met) {
+    if !takes_members(alloc, &mut reader, &mut met) || !reader.is_done() {
         return None;
     }
     step_met(&mut met)
@@ -113,6 +102,7 @@ fn verify_of(gtin: &str, party: Party, serial: &str) -> Option<Step>
 }
 
 /// Takes the rest of an object, behind its opening brace, with its fields in any order, each once, and says whether it could.
+#[inline(always)]
 #[tactic(auto, using(crate::proofs::LineFieldsLemmas::no_field, crate::proofs::LineFieldsLemmas::one_more_field, crate::proofs::LineFieldsLemmas::all_fields))]
 fn takes_members<'a>(alloc: Global, reader: &mut Reader<'a>, met: &mut LineFields<'a>) -> bool
     requires none { (field : AField) → met_of met.old field ≡ None }

@@ -237,7 +237,7 @@ impl TextWriter {
         self.append(escaped.as_str())
     }
 
-    /// Writes a character of ASCII as it is. It is a push in place, where `append` is a call.
+    /// Writes a character of ASCII as it is.
     #[inline(always)]
     fn put(&mut self, byte: u8) -> Result<(), AllocError>
         requires ascii { byte < 128 }
@@ -245,7 +245,9 @@ impl TextWriter {
         ensures after_value { self.new.after_value ≡ self.old.after_value }
         ensures text { OnOk result (self.new.text ≡ self.old.text ++ byte ∷ []) }
     {
-        self.bytes.push(byte).or(Err(AllocError))
+        self.bytes.reserve(1)?;
+        self.bytes.push_reserved(byte);
+        Ok(())
     }
 
     /// Writes bytes as they are.

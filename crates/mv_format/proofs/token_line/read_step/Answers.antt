@@ -1,4 +1,5 @@
-use Rattle.mv_format.proofs.Words.{[], rules, tokens, ◌≡◌}
+use Rattle.mv_format.proofs.Words.{[], begin_object, rules, sym, tokens, ◌∷◌, ◌≡◌}
+use Rattle.std.proofs.lemmas.Option.{IfSome_then}
 use Rattle.mv_format.proofs.LineFieldsLemmas.{line_asks}
 use Rattle.mv_format.proofs.token_line.read_step.Goals as goal
 
@@ -6,5 +7,9 @@ use Rattle.mv_format.proofs.token_line.read_step.Goals as goal
 pub returns : goal.returns
 returns c =
     let starts : c.new-reader.result ≡ tokens c.args.line.now = search (rules, c.in_ok-text.ensures.0) in
-    let ended : c.take_step.new.reader ≡ [] = search rules in
-    line_asks _ _ c.in_ok-text.ensures.1 (rw (starts, ended) at c.in_ok-step.ensures)
+    let opens : tokens c.args.line.now ≡ begin_object ∷ c.takes_opening.new.self =
+    rw starts at (c.takes_opening.ensures.opening c.if-not-takes_opening.false) in
+    let (found, begins, has) = c.takes_members.ensures c.if-not-takes_members.false in
+    let ended : c.takes_members.new.reader ≡ [] = search rules in
+    let whole = rw (sym opens, ended) at begins in
+    IfSome_then c.step_met.result c.step_met.ensures (λ step asked. line_asks _ _ c.in_ok-text.ensures.1 (found, whole, asked found has))

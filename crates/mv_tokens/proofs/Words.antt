@@ -9,12 +9,15 @@ unfoldable pub use Rattle.json.specs.Text.{content}
 pub use Rattle.json.specs.Token.{string}
 pub use Rattle.json.specs.Written.{PlainBetween}
 pub use Rattle.serde_json.proofs.Numbers.{number_of-decimal}
-pub use Rattle.std.proofs.Common.{Bool, List, Some, [], append_assoc, arith, cond, decimal, drop, eqb, get_or, inl, inr, leb, length, length-drop, ltb, map, nat_eq, refl, replicate, suc, sym, take, true, zero, ℕ, ◌%◌, ◌++◌, ◌+◌, ◌-◌, ◌<◌, ◌^◌, ◌∷◌, ◌≡◌, ◌≤◌}
+pub use Rattle.std.proofs.Common.{Bool, List, Some, [], ap, append_assoc, arith, cond, decimal, drop, eqb, false, get_or, inl, inr, leb, length, length-drop, ltb, map, nat_eq, refl, replicate, suc, sym, take, true, zero, ℕ, ◌%◌, ◌*◌, ◌++◌, ◌+◌, ◌-◌, ◌/◌, ◌<◌, ◌^◌, ◌∷◌, ◌≡◌, ◌≤◌, ◌∙◌}
+pub use Rattle.std.proofs.Math.Nat.{zero-div}
 pub use Rattle.std.proofs.lemmas.Bool.{cases_lt}
 pub use Rattle.std.proofs.lemmas.Bool.Decides.{Decides-eqb, nat_tests}
 pub use Rattle.std.proofs.lemmas.Fmt.{decimal_digit, decimal_step}
-pub use Rattle.std.proofs.lemmas.List.{drop-drop, drop_all, drop_more, get_or_past, length-map, take_all}
-pub use Rattle.std.proofs.lemmas.Simd.{first_set_mask_l, mask_l-mod, none_from_empty_mask, run_in_chunk_fails}
+pub use Rattle.std.proofs.lemmas.List.{drop-drop, drop-map, drop-take, drop_all, drop_more, get_or_past, length-map, take_all}
+pub use Rattle.std.proofs.lemmas.List.Sums.{prefix_len-le-length}
+pub use Rattle.std.proofs.lemmas.Nat.{shr-shr}
+pub use Rattle.std.proofs.lemmas.Simd.{first_set_mask_l, length-chunk, mask_l-mod, none_from_empty_mask, run_in_chunk_fails}
 pub use Rattle.std.proofs.lemmas.Slice.Eq.{starts_is}
 pub use Rattle.std.proofs.lemmas.Str.{IsCharBoundary-after_ascii, IsCharBoundary-start, IsUtf8-from_ascii}
 pub use Rattle.std.specs.List.{prefix_len, starts_with}

@@ -1,6 +1,6 @@
 //! Finds where the plain bytes of a text end.
 
-ghost use Rattle.std.specs.Prelude.{◌≡◌, ◌≤◌, length};
+ghost use Rattle.std.specs.Prelude.{◌≡◌, ◌≤◌, drop, length};
 ghost use Rattle.std.specs.List.{prefix_len};
 ghost use Rattle.json.specs.Run.{is_plain};
 ghost use Rattle.json.specs.Written.{PlainBetween};
@@ -13,6 +13,7 @@ const LANES: usize = 16;
 /// The place of the first byte that is not plain in a text: a quote, a backslash or a control
 /// character; or the end.
 #[inline(always)]
+#[tactic(auto, using(crate::proofs::RunLemmas::few_left))]
 pub(crate) fn plain_end(bytes: &[u8], from: usize) -> usize
     requires within { from ≤ length bytes.now }
     ensures within { (from ≤ result) × (result ≤ length bytes.now) }
@@ -20,27 +21,32 @@ pub(crate) fn plain_end(bytes: &[u8], from: usize) -> usize
 {
     let mut at = from;
     while bytes.len() - at >= LANES {
-        let plain = plain_count(u8x16::from_slice(&bytes[at..]));
+        let plain = plain_count(u8x16::from_slice(&bytes[at..]), 0);
         if plain < LANES {
             return at + plain;
         }
         at += LANES;
     }
-    plain_end_by_byte(bytes, at)
+    if bytes.len() < LANES {
+        return plain_end_by_byte(bytes, at);
+    }
+    let last = bytes.len() - LANES;
+    at + plain_count(u8x16::from_slice(&bytes[last..]), at - last)
 }
 
-/// How many bytes of sixteen are plain before the first that is not.
+/// How many bytes of sixteen are plain before the first that is not, once some were passed.
 #[inline(always)]
 #[tactic(auto, using(crate::proofs::RunLemmas::counted))]
-fn plain_count(lanes: u8x16) -> usize
-    ensures { result ≡ prefix_len is_plain lanes }
+fn plain_count(lanes: u8x16, passed: usize) -> usize
+    requires within { passed ≤ 16 }
+    ensures { result ≡ prefix_len is_plain (drop passed lanes) }
 {
     let stops = lanes.simd_eq(u8x16::splat(b'"'))
         | lanes.simd_eq(u8x16::splat(b'\\'))
         | lanes.simd_lt(u8x16::splat(0x20));
-    let places = stops.to_bitmask();
+    let places = stops.to_bitmask() >> passed;
     if places == 0 {
-        return LANES;
+        return LANES - passed;
     }
     places.trailing_zeros() as usize
 }

@@ -1,11 +1,12 @@
 -- What stands in the fields of a line: its tokens, and what it asks.
-use Rattle.mv_format.proofs.Words.{All, AreMet, Contains-append_left, Contains-push, Data, IsUtf8, LineField, LineKind, List, None, Ok, Option, Request, Some, Token, [], all_met, ap, arith, as_object, begin_object, begun_shorter, converted_some, end_object, field_name, get, IfSome, option_map, string, text_begins, is_some, key, keys_of, kind_at, kind_named, known_only, length, lt-ltb, message_at, names_of, nat_tests, none_met, none_unknown, number_at, one_more_met, read_at, read_line, read_request, refl, request_at, stands, text_at, tokens, true, unsigned, whole, whole_begins, ℕ, ◌++◌, ◌<◌, ◌^◌, ◌∷◌, ◌≡◌, ◌≢◌, ◌⊎◌, utf8_test, AreAll, Asks, asked_by, BeginWithFields, BeginWithPart, HasFields, IsMet, IsPart, LinePart, Meets, Message, Number, Text, met_of, shape_of, HasField}
+use Rattle.mv_format.proofs.Words.{All, AreMet, Contains, Contains-append_left, Contains-push, Data, IsUtf8, LineField, LineKind, List, None, Ok, Option, Request, Some, Token, [], all_met, ap, arith, as_object, begin_object, begun_shorter, converted_some, end_object, field_name, get, IfSome, option_map, string, text_begins, is_some, key, keys_of, kind_at, kind_named, known_only, length, lt-ltb, message_at, names_of, nat_tests, none_met, none_unknown, number_at, one_more_met, read_at, read_line, read_request, refl, request_at, stands, text_at, tokens, true, unsigned, whole, whole_begins, ℕ, ◌++◌, ◌<◌, ◌^◌, ◌∷◌, ◌≡◌, ◌≢◌, ◌⊎◌, utf8_test, AreAll, Asks, asked_by, BeginWithFields, BeginWithPart, HasFields, IsMet, IsPart, LinePart, Meets, Message, Number, Text, met_of, shape_of}
 use Rattle.mv_format.specs.Words.{read_code, read_gtin}
 use Rattle.mv_format.specs.declared.line_fields.LineFields.{LineFields}
 use Rattle.mv_message.specs.declared.message.Message.{Message as AMessage}
 use Rattle.serde_json.specs.Read.{number_of}
 use Rattle.std.specs.Prelude.{suc}
 use Rattle.mv_json.specs.inside.Parts.{IsOneOf}
+use Rattle.std.proofs.Common.{inl, inr, sym}
 use Rattle.json.specs.Token as token
 use Rattle.mv_format.specs.declared.field.LineField.TheVariants as fields
 
@@ -21,17 +22,6 @@ number_says ts rest n text is numbered within = (whole n, rw is (whole_begins 2 
 -- two fields have two names
 name_apart : (f g : LineField) → f ≢ g → field_name f ≡ field_name g → ⊥
 name_apart f g apart same = grind (arith, nat_tests)
-
--- ---- fields of a kind
-
--- a field is one of a list where it is the first, or one of those behind
-pub has_first : (field : LineField) (rest : List LineField) → IsOneOf (field ∷ rest) field
-unfolding IsOneOf
-has_first field rest = (0, omega arith, refl)
-
-pub has_later : (first field : LineField) (rest : List LineField) → IsOneOf rest field → IsOneOf (first ∷ rest) field
-unfolding IsOneOf
-has_later first field rest (k, within, is) = (suc k, omega (arith, within), is)
 
 -- ---- fields that are met
 
@@ -68,6 +58,25 @@ all_fields start rest met (named, are, all) =
 -- a part takes tokens
 pub part_shorter : (ts rest : List Token) (part : LinePart) → BeginWithPart ts part rest → length rest < length ts
 part_shorter ts rest part (found, begins, says) = begun_shorter 2 ts rest found begins
+
+-- ---- fields that are taken out
+
+-- a field is one of these
+abbrev pub AnyOf : LineField → List LineField → Type 0
+AnyOf field [] = ⊥
+AnyOf field (first ∷ rest) = (field ≡ first) ⊎ AnyOf field rest
+
+-- what was met are the fields that were taken out, and those that were met of what is left
+pub taken : (old left : LineFields) (out listed : List LineField) → AreAll left listed
+    → ((field : LineField) → AnyOf field out ⊎ (met_of left field ≡ met_of old field)) → AreAll old (out ++ listed)
+taken old left out listed all apart field some = among out (apart field)
+  where
+    among : (out : List LineField) → AnyOf field out ⊎ (met_of left field ≡ met_of old field) → Contains (out ++ listed) field
+    among [] (inl none) = elim none [ ]
+    among [] (inr kept) = all field (rw kept some)
+    among (first ∷ rest) (inl (inl same)) = (0, omega arith, sym same)
+    among (first ∷ rest) (inl (inr later)) = let (k, within, is) = among rest (inl later) in (suc k, omega (arith, within), is)
+    among (first ∷ rest) (inr kept) = let (k, within, is) = among rest (inr kept) in (suc k, omega (arith, within), is)
 
 -- ---- what a field is read as
 
@@ -115,11 +124,11 @@ message_told met message is value has = let (there, at, so) = there_is value met
 
 -- an object that has no other field than those of its kind asks what they do
 pub request_read : (met : LineFields) (text : List ℕ) (kind : LineKind) (request : Request) → met_of met fields.Do ≡ Some (Text text) → kind_named text ≡ Some kind
-    → ((field : LineField) → is_some (met_of met field) ≡ true → HasField kind field)
+    → AreAll met (fields.Do ∷ (shape_of kind).0)
     → (value : Data) → HasFields value met → asked_by kind value ≡ Ok request → read_request value ≡ Ok request
-unfolding read_request request_at
+unfolding read_request request_at IsOneOf
 request_read met text kind request asked is among value (named, has, all) asks =
-    let known_fields : All (HasField kind) named = λ k d h. let (there, at, (was, stood, so)) = has.says k d h in among _ (rw stood refl) in
+    let known_fields : All (IsOneOf (fields.Do ∷ (shape_of kind).0)) named = λ k d h. let (there, at, (was, stood, so)) = has.says k d h in among _ (rw stood refl) in
     let (members, is_object, known) = known_only field_name (λ field. field) (fields.Do ∷ (shape_of kind).0) has known_fields in
     let opened : as_object value ≡ Some members = ap as_object is_object in
     rw (opened, kind_told met text kind asked is value (named, has, all), none_unknown (names_of kind) (keys_of members) known) asks

@@ -12,7 +12,7 @@ pub use Rattle.mv_format.specs.Words.{AllByRecursion, Character, IsMarket, LineF
 pub use Rattle.mv_format.specs.Writing.{entry_of, members_of, members_where}
 unfoldable pub use Rattle.mv_format.specs.Writing.{tokens_of}
 pub use Rattle.mv_format.specs.declared.line_fault.LineFault.TheVariants.{Kind, Pack, Unknown}
-pub use Rattle.mv_format.specs.inside.LineFields.{AreAll, Asks, BeginWithFields, BeginWithPart, HasField, HasFields, IsMet, IsPart, LinePart, Meets, asked_by, market_item, market_list, met_of, read_all, with_front}
+pub use Rattle.mv_format.specs.inside.LineFields.{AreAll, Asks, BeginWithFields, BeginWithPart, HasFields, IsMet, IsPart, LinePart, Meets, asked_by, market_item, market_list, met_of, read_all, with_front}
 pub use Rattle.mv_format.specs.inside.LineFields.LinePart.{Message, Number, Text}
 unfoldable pub use Rattle.mv_format.specs.inside.LineFields.{walked_lists_at}
 pub use Rattle.mv_format.specs.inside.Writing.{entry_tokens, member_tokens}

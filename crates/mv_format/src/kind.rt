@@ -1,9 +1,8 @@
 //! The kinds of lines, and the fields of each.
 
-ghost use Rattle.std.specs.Prelude.{◌≡◌, ◌∷◌, IsTrue};
+ghost use Rattle.std.specs.Prelude.{◌≡◌, ◌∷◌};
 ghost use Rattle.mv_format.specs.Kinds.{kind_named, kind_at, shape_of};
 ghost use Rattle.mv_format.specs.Words.{GivesOr, view};
-ghost use Rattle.mv_format.specs.inside.LineFields.{HasField};
 
 use crate::field_reading::text_of;
 use crate::{LineFault, LineField};
@@ -48,26 +47,6 @@ impl LineKind {
             Self::Repeat => &[Do, From, Number, To],
             Self::Verify => &[Do, Gtin, Party, Serial],
             Self::Verdict => &[Do, Party, Q],
-        }
-    }
-
-    /// Whether such a line has the field.
-    #[inline(always)]
-    #[tactic(auto, using(crate::proofs::LineFieldsLemmas::has_first, crate::proofs::LineFieldsLemmas::has_later))]
-    pub(crate) fn has(self, field: LineField) -> bool
-        ensures { IsTrue result → HasField self field }
-    {
-        use LineField::*;
-        match self {
-            Self::Open => matches!(field, Do | Parties | Submissions | Uplink | Window | Wire),
-            Self::Submit => matches!(field, Do | From | Message),
-            Self::Route => matches!(field, Do | From),
-            Self::Relay | Self::Apply | Self::Close | Self::Lose => {
-                matches!(field, Do | From | To)
-            }
-            Self::Repeat => matches!(field, Do | From | Number | To),
-            Self::Verify => matches!(field, Do | Gtin | Party | Serial),
-            Self::Verdict => matches!(field, Do | Party | Q),
         }
     }
 }

@@ -1,11 +1,8 @@
 //! The fields of a line as they are met, in any order, and what stands in each.
 
-ghost use Rattle.std.specs.Prelude.{◌≡◌, IsTrue, None, is_some, true};
-ghost use Rattle.mv_format.specs.declared.field.LineField.{LineField as AField};
-ghost use Rattle.mv_format.specs.inside.LineFields.{HasField, met_of};
+ghost use Rattle.std.specs.Prelude.{◌≡◌, [], IfSome, IsTrue, None, is_some, true};
+ghost use Rattle.mv_format.specs.inside.LineFields.{AreAll};
 
-use crate::LineField;
-use crate::kind::LineKind;
 use mv_message::{Message, Shared};
 
 /// What stands in the fields that were met of a line that asks a step.
@@ -32,19 +29,21 @@ pub(crate) struct LineFields<'a> {
 }
 
 impl LineFields<'_> {
-    /// Whether lines of this kind have each field that was met.
-    pub(crate) fn are_of(&self, kind: LineKind) -> bool
-        ensures { IsTrue result → (field : AField) → is_some (met_of self.now field) ≡ true → HasField kind field }
+    /// Nothing, where no field is left.
+    #[inline(always)]
+    pub(crate) fn end(&self) -> Option<()>
+        ensures { IfSome result (λ _. AreAll self.now []) }
     {
-        is_of(&self.asked, kind, LineField::Do)
-            && is_of(&self.from, kind, LineField::From)
-            && is_of(&self.gtin, kind, LineField::Gtin)
-            && is_of(&self.message, kind, LineField::Message)
-            && is_of(&self.number, kind, LineField::Number)
-            && is_of(&self.party, kind, LineField::Party)
-            && is_of(&self.q, kind, LineField::Q)
-            && is_of(&self.serial, kind, LineField::Serial)
-            && is_of(&self.to, kind, LineField::To)
+        let is_empty = self.asked.is_none()
+            && self.from.is_none()
+            && self.gtin.is_none()
+            && self.message.is_none()
+            && self.number.is_none()
+            && self.party.is_none()
+            && self.q.is_none()
+            && self.serial.is_none()
+            && self.to.is_none();
+        is_empty.then_some(())
     }
 }
 
@@ -58,12 +57,4 @@ pub(crate) fn puts<T: Drop>(place: &mut Option<T>, value: Option<T>) -> bool
     }
     *place = value;
     true
-}
-
-/// Whether a field was not met, or lines of this kind have it.
-#[inline(always)]
-fn is_of<T>(met: &Option<T>, kind: LineKind, field: LineField) -> bool
-    ensures { IsTrue result → is_some met.now ≡ true → HasField kind field }
-{
-    met.is_none() || kind.has(field)
 }

@@ -1,10 +1,11 @@
 //! Reads lines by their tokens, with no value in between, their keys in any order.
 
-ghost use Rattle.std.specs.Prelude.{◌≡◌, ◌∷◌, ℕ, List, Ok, IfSome, IsTrue, MatchOption, None};
+ghost use Rattle.std.specs.Prelude.{◌≡◌, ◌∷◌, ℕ, List, [], Ok, IfSome, IsTrue, MatchOption, None, Some};
 ghost use Rattle.mv_format.specs.Words.{Data, begin_object, end_object, key, read_code, read_gtin};
 ghost use Rattle.mv_pack.specs.Keys.{pack_key};
 ghost use Rattle.mv_format.specs.Fields.{field_name};
-ghost use Rattle.mv_format.specs.inside.LineFields.{Asks, BeginWithFields, BeginWithPart, HasFields, LinePart, Meets, met_of};
+ghost use Rattle.mv_format.specs.inside.LineFields.{AreAll, BeginWithFields, BeginWithPart, HasFields, LinePart, Meets, met_of};
+ghost use Rattle.mv_format.specs.declared.field.LineField.TheVariants as fields;
 ghost use Rattle.mv_format.specs.declared.field.LineField.{LineField as AField};
 ghost use Rattle.mv_format.specs.inside.LineFields.LinePart.{Message as InMessage, Number};
 ghost use Rattle.mv_format.specs.Requests.{read_line, read_request};
@@ -46,44 +47,69 @@ pub fn read_step(alloc: Global, scratch: &mut Scratch, line: &[u8]) -> Option<St
 fn step_met(met: &mut LineFields<'_>) -> Option<Step>
     ensures { IfSome result (λ step. (value : Data) → HasFields value met.old → read_request value ≡ Ok (Request.Step step)) }
 {
-    let kind = kind_called(met.asked?)?;
-    if !met.are_of(kind) {
-        return None;
-    }
-    match kind {
+    match kind_called(met.asked.take()?)? {
         LineKind::Open => None,
-        LineKind::Submit => Some(Step::Submit {
-            from: met.from?,
-            message: met.message.take()?,
-        }),
-        LineKind::Route => Some(Step::Route { from: met.from? }),
-        LineKind::Relay => Some(Step::Relay {
-            from: met.from?,
-            to: met.to?,
-        }),
-        LineKind::Apply => Some(Step::Apply {
-            from: met.from?,
-            to: met.to?,
-        }),
-        LineKind::Repeat => Some(Step::Repeat {
-            from: met.from?,
-            number: met.number?,
-            to: met.to?,
-        }),
-        LineKind::Close => Some(Step::Close {
-            from: met.from?,
-            to: met.to?,
-        }),
-        LineKind::Lose => Some(Step::Lose {
-            from: met.from?,
-            to: met.to?,
-        }),
-        LineKind::Verify => verify_of(met.gtin?, met.party?, met.serial?),
-        LineKind::Verdict => Some(Step::Verdict {
-            party: met.party?,
-            q: met.q?,
-        }),
+        LineKind::Submit => {
+            let from = met.from.take()?;
+            let message = met.message.take()?;
+            met.end()?;
+            Some(Step::Submit { from, message })
+        }
+        LineKind::Route => {
+            let from = met.from.take()?;
+            met.end()?;
+            Some(Step::Route { from })
+        }
+        LineKind::Relay => {
+            let (from, to) = link_met(met)?;
+            Some(Step::Relay { from, to })
+        }
+        LineKind::Apply => {
+            let (from, to) = link_met(met)?;
+            Some(Step::Apply { from, to })
+        }
+        LineKind::Repeat => {
+            let from = met.from.take()?;
+            let number = met.number.take()?;
+            let to = met.to.take()?;
+            met.end()?;
+            Some(Step::Repeat { from, number, to })
+        }
+        LineKind::Close => {
+            let (from, to) = link_met(met)?;
+            Some(Step::Close { from, to })
+        }
+        LineKind::Lose => {
+            let (from, to) = link_met(met)?;
+            Some(Step::Lose { from, to })
+        }
+        LineKind::Verify => {
+            let gtin = met.gtin.take()?;
+            let party = met.party.take()?;
+            let serial = met.serial.take()?;
+            met.end()?;
+            verify_of(gtin, party, serial)
+        }
+        LineKind::Verdict => {
+            let party = met.party.take()?;
+            let q = met.q.take()?;
+            met.end()?;
+            Some(Step::Verdict { party, q })
+        }
     }
+}
+
+/// The parties of a link, where no other field is left.
+#[inline(always)]
+fn link_met(met: &mut LineFields<'_>) -> Option<(Party, Party)>
+    ensures { IfSome result (λ link. (met_of met.old fields.From ≡ Some (Number link.0))
+        × (met_of met.old fields.To ≡ Some (Number link.1))
+        × AreAll met.old (fields.From ∷ fields.To ∷ [])) }
+{
+    let from = met.from.take()?;
+    let to = met.to.take()?;
+    met.end()?;
+    Some((from, to))
 }
 
 /// The step that verifies a pack. It stands for itself, so that no other step is put together with its codes.

@@ -4,7 +4,7 @@ use Rattle.std.specs.Prelude.{ℕ, if◌then◌else◌, is_some, List, [], ◌�
 use Rattle.mv_format.specs.Words.{Data, Items, Kind, LineFault, LineField, LineKind, Pack, as_array, as_list, as_str, each_of, item, map_err, no_items, read_market, ◌and_then◌, Request, Token, read_message, string, whole}
 use Rattle.mv_format.specs.Reading.{member_at}
 use Rattle.mv_json.specs.Met.{BeginWith}
-use Rattle.mv_json.specs.inside.Parts.{HasMet, IsOneOf}
+use Rattle.mv_json.specs.inside.Parts.{HasMet}
 use Rattle.mv_format.specs.declared.line_fields.LineFields.{LineFields}
 use Rattle.mv_message.specs.declared.message.Message.{Message as AMessage}
 use Rattle.mv_format.specs.Fields.{field_name}
@@ -64,10 +64,6 @@ met_of met other = None
 -- a value is what was met in a field
 abbrev pub IsMet : LineFields → Data → LineField → Type 0
 IsMet met found field = (part : LinePart) × (met_of met field ≡ Some part) × IsPart found part
-
--- lines of a kind have the field
-abbrev pub HasField : LineKind → LineField → Type 0
-HasField kind field = IsOneOf (fields.Do ∷ (shape_of kind).0) field
 
 -- no field was met but these
 abbrev pub AreAll : LineFields → List LineField → Type 0

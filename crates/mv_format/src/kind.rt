@@ -9,7 +9,7 @@ use crate::{LineFault, LineField};
 use serde_json::Value;
 
 /// What a line asks, which its field `do` names.
-#[derive(Clone, Copy, PartialEq, Eq)]
+#[derive(Clone, Copy)]
 pub(crate) enum LineKind {
     /// `open`: a system of these parties and limits.
     Open,

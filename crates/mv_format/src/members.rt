@@ -108,7 +108,7 @@ fn write_member(writer: &mut TextWriter, member: Member<'_>) -> Result<(), Alloc
         }
         Member::Parties(key, parties) => {
             writer.key(key)?;
-            write_list(writer, parties.to_reach().as_slice())
+            parties.write(writer)
         }
         Member::Numbers(key, numbers) => {
             writer.key(key)?;

@@ -10,7 +10,7 @@ ghost use Rattle.mv_format.specs.inside.Writing.{entries_put};
 ghost use Rattle.mv_json.specs.Tokens.{Puts};
 ghost use Rattle.mv_format.specs.ReplyLines.{answer_value, counts_of, number_where, numbered, place_of, refused, refused_field, refused_pack, message_fault_value, line_fault_value, reply_value};
 
-use crate::members::Member::{Flag, Number, NumberOrNone, Parties, Text};
+use crate::members::Member::{Flag, Number, NumberOrNone, Text};
 use crate::members::{Object, write_object};
 use crate::{Answered, LineFault, ToJson};
 use mv_json::members::Named;
@@ -182,8 +182,12 @@ fn write_numbered(writer: &mut TextWriter, key: &'static str, number: u32) -> Re
 fn write_routed(writer: &mut TextWriter, k: u32, reach: Reached) -> Result<(), AllocError>
     ensures { Adds result writer.old writer.new (reply_value (Reply.Routed k reach)) }
 {
-    let members = [Parties("reach", &reach), Number("routed", k as u64)];
-    write_object(writer, &members)
+    writer.begin_object()?;
+    writer.plain_key("reach")?;
+    reach.write(writer)?;
+    writer.plain_key("routed")?;
+    writer.u64(u64::from(k))?;
+    writer.end_object()
 }
 
 /// Writes the reply that a frame lies behind a gap, and which was expected.
@@ -227,10 +231,10 @@ fn write_applied(
 {
     writer.begin_object()?;
     write_where(writer, "answer", answer)?;
-    writer.key("applied")?;
+    writer.plain_key("applied")?;
     writer.u64(u64::from(number))?;
-    writer.key("effect")?;
-    writer.string(effect.code())?;
+    writer.plain_key("effect")?;
+    writer.plain_string(effect.code())?;
     write_counts(writer, effect)?;
     writer.end_object()
 }

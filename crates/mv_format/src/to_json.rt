@@ -5,6 +5,7 @@ ghost use Rattle.mv_format.specs.Words.{Data, array, items_of, string, strings, 
 ghost use Rattle.mv_format.specs.Writing.{Adds, Appended};
 
 use mv_json::TextWriter;
+use mv_link::Reached;
 use mv_message::Markets;
 use mv_pack::Market;
 use std::alloc::{AllocError, Global};
@@ -48,6 +49,20 @@ impl ToJson for u32 {
     #[tactic(auto, unfolding(crate::specs::Writing::tokens_of))]
     fn write(&self, writer: &mut TextWriter) -> Result<(), AllocError> {
         writer.u64(u64::from(*self))
+    }
+}
+
+/// The parties that a message reached, as a list.
+impl ToJson for Reached {
+    ghost value = { λ parties. array (items_of (map whole parties)) };
+
+    fn write(&self, writer: &mut TextWriter) -> Result<(), AllocError> {
+        writer.begin_array()?;
+        let mut rest = self.parties();
+        while let Some(party) = rest.pop_first() {
+            writer.u64(u64::from(party))?;
+        }
+        writer.end_array()
     }
 }
 

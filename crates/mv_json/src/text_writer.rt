@@ -148,6 +148,18 @@ impl TextWriter {
         self.quote(text)
     }
 
+    /// Writes a text that needs no escape, without a look at it.
+    #[inline(always)]
+    #[tactic(auto, using(crate::proofs::TokenLemmas::one_put))]
+    pub fn plain_string(&mut self, text: &str) -> Result<(), AllocError>
+        requires plain { escape text.now ≡ text.now }
+        ensures { Puts result self.old self.new (string text.now ∷ []) }
+    {
+        self.separate()?;
+        self.after_value = true;
+        self.quote_plain(text)
+    }
+
     /// Writes a whole number.
     #[inline(always)]
     #[tactic(auto, using(crate::proofs::TokenLemmas::one_put))]

@@ -1,6 +1,6 @@
 //! A set of parties in one machine word. No other code knows of its bits: all else sees which parties a set has.
 
-ghost use Rattle.std.specs.Prelude.{◌≡◌, ◌<◌, ◌==◌, ◌&&◌, ◌||◌, ℕ, [], ◌∷◌, not, true, false, MatchOption};
+ghost use Rattle.std.specs.Prelude.{◌≡◌, ◌<◌, ◌==◌, ◌&&◌, ◌||◌, ℕ, [], ◌∷◌, length, not, true, false, MatchOption};
 ghost use Rattle.mv_link.specs.PartySets.{has_party, parties_in};
 
 use crate::{PARTIES_LIMIT, Reach};
@@ -102,6 +102,18 @@ impl PartySet {
         let party = self.bits.trailing_zeros();
         *self = self.without(party);
         Some(party)
+    }
+
+    /// How many parties the set has.
+    pub fn len(self) -> usize
+        ensures { result ≡ length (parties_in self) }
+    {
+        let mut rest = self;
+        let mut count = 0;
+        while rest.pop_first().is_some() {
+            count += 1;
+        }
+        count
     }
 
     /// The parties of the set, ascending.

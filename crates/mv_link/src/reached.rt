@@ -41,6 +41,13 @@ impl Reached {
         }
     }
 
+    /// The parties as a set.
+    pub fn parties(&self) -> PartySet
+        ensures { parties_in result ≡ self.now }
+    {
+        self.parties
+    }
+
     /// The parties as a list, ascending.
     pub fn to_reach(&self) -> Reach
         ensures { result ≡ self.now }

@@ -179,7 +179,7 @@ fn shares_of(
     ensures { IfOk result (λ shares. shares.items
         ≡ replicate (length (parties_in parties)) message.now) }
 {
-    let count = parties.to_reach().as_slice().len();
+    let count = parties.len();
     let mut shares = Vec::with_capacity(alloc, count)?;
     for _ in 0..count {
         shares.push_reserved(message.share()?);

@@ -170,16 +170,27 @@ fn take_list_part<'a>(alloc: Global, reader: &mut Reader<'a>, field: Field) -> O
 {
     match field {
         Field::AfterSerials | Field::BeforeSerials | Field::Serials => {
-            let mut serials = take_list(alloc, reader, MOST_SERIALS)?;
-            // One alone keeps the place of many: a message copies it out, and what is given back as a whole leaves no small part behind.
-            if serials.len() > 1 {
-                serials.shrink_to_fit();
-            }
-            Some(Part::Serials(serials))
+            let serials = take_list(alloc, reader, MOST_SERIALS)?;
+            Some(Part::Serials(fitted(alloc, serials)?))
         }
         Field::Markets => Some(Part::Markets(take_list(alloc, reader, MOST_MARKETS)?)),
         _ => None,
     }
+}
+
+/// The same values in a place of their size, or one alone where it stands: a message copies that out. The place of many is given back
+/// as a whole, and serves the next list. A list that shrinks where it stands leaves a rest, each time of another size.
+fn fitted<T: Drop>(alloc: Global, mut list: Vec<T>) -> Option<Vec<T>>
+    ensures { IfSome result (λ fitted. fitted.items ≡ list.items) }
+{
+    if list.len() == 1 {
+        return Some(list);
+    }
+    let Ok(mut fitted) = Vec::with_capacity(alloc, list.len()) else {
+        return None;
+    };
+    fitted.append(&mut list).ok()?;
+    Some(fitted)
 }
 
 /// Takes 1 to `most` values, up to the end of their list.

@@ -10,8 +10,8 @@ returns c =
     named (
     c.in_ok-begin_object.ensures
     then c.in_ok-write_where.ensures
-    then (c.in_ok-key.ensures then c.in_ok-u64.ensures)
-    then (c.in_ok-key-2.ensures then c.in_ok-string.ensures)
+    then (c.in_ok-plain_key.ensures then c.in_ok-u64.ensures)
+    then (c.in_ok-plain_key-2.ensures then c.in_ok-plain_string.ensures)
     then c.in_ok-write_counts.ensures
     then c.end_object.ensures
     ) (let is = applied_is c.args.number c.args.effect c.args.answer in search rules)

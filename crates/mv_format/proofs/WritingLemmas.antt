@@ -1,5 +1,6 @@
 -- What is written of a reply's object is its canonical text.
 use Rattle.mv_format.proofs.Words.{Err, Ok, ◌≡◌, ℕ, ◌≤◌, List, [], ◌∷◌, ◌++◌, refl, ap, map, flat_map, length, take, sym, take_all, append_assoc, arith, None, Option, Result, Some, Data, array, begin_array, begin_object, cond, false, end_array, end_object, items_of, key, member_tokens, members_of, nat_tests, object, tokens_of}
+use Rattle.json.specs.Print.{escape, escape_byte}
 use Rattle.json.specs.Tree.{items_tokens, members_tokens}
 use Rattle.mv_format.specs.Writing.{Adds, Appended}
 use Rattle.mv_json.proofs.CallerLemmas.{written_behind}
@@ -37,6 +38,11 @@ pub applied_is : (n : ℕ) (effect : Effect) (answer : Option ℕ)
 unfolding tokens_of
 applied_is n effect None = ap (λ ts. begin_object ∷ key (codes "applied") ∷ tokens_of (whole n) ++ key (codes "effect") ∷ tokens_of (string (effect_code effect)) ++ ts) (sym (entries_are (counts_of effect)))
 applied_is n effect (Some m) = ap (λ ts. begin_object ∷ key (codes "answer") ∷ tokens_of (whole m) ++ key (codes "applied") ∷ tokens_of (whole n) ++ key (codes "effect") ∷ tokens_of (string (effect_code effect)) ++ ts) (sym (entries_are (counts_of effect)))
+
+-- the code of an effect needs no escape
+pub codes_plain : (effect : Effect) → escape (effect_code effect) ≡ effect_code effect
+unfolding escape_byte
+codes_plain effect = grind arith
 
 items_are : {A : Type 0} (value : A → Data) (xs : List A) → items_tokens (items_outline (items_of (map value xs))) ≡ flat_map (λ x. tokens_of (value x)) xs ++ end_array ∷ []
 unfolding tokens_of

@@ -179,6 +179,7 @@ fn write_numbered(writer: &mut TextWriter, key: &'static str, number: u32) -> Re
 
 /// Writes the reply that a message was routed, and to whom. That is a copy: the compiler copies each reply whose address may be kept.
 #[inline(never)]
+#[tactic(auto, unfolding(json::specs::Print::escape_byte))]
 fn write_routed(writer: &mut TextWriter, k: u32, reach: Reached) -> Result<(), AllocError>
     ensures { Adds result writer.old writer.new (reply_value (Reply.Routed k reach)) }
 {
@@ -220,6 +221,7 @@ fn write_busy(writer: &mut TextWriter, party: Party) -> Result<(), AllocError>
 }
 
 /// Writes the reply that a frame was applied, and the number of the answer that it called for.
+#[tactic(auto, using(crate::proofs::WritingLemmas::codes_plain), unfolding(json::specs::Print::escape_byte))]
 fn write_applied(
     writer: &mut TextWriter,
     number: u32,

@@ -20,10 +20,10 @@ unfolding tokens_of
 returns-in_ok-key-in-Null c = named (c.in_ok-key-in-Null.ensures then c.null.ensures) (search rules)
 
 pub returns-in_ok-key-in-Parties : goal.returns-in_ok-key-in-Parties
-returns-in_ok-key-in-Parties c = named (c.in_ok-key-in-Parties.ensures then c.write_list.ensures) (search rules)
+returns-in_ok-key-in-Parties c = named (c.in_ok-key-in-Parties.ensures then c.write.ensures) (search rules)
 
 pub returns-in_ok-key-in-Numbers : goal.returns-in_ok-key-in-Numbers
-returns-in_ok-key-in-Numbers c = named (c.in_ok-key-in-Numbers.ensures then c.write_list-in-Numbers.ensures) (search rules)
+returns-in_ok-key-in-Numbers c = named (c.in_ok-key-in-Numbers.ensures then c.write_list.ensures) (search rules)
 
 pub returns-in_ok-key-in-Markets : goal.returns-in_ok-key-in-Markets
 returns-in_ok-key-in-Markets c = named (c.in_ok-key-in-Markets.ensures then c.write_list-in-Markets.ensures) (search rules)

@@ -6,7 +6,7 @@ use Rattle.mv_format.proofs.to_json.ReachedToJson.write.Given as goal
 
 -- the first parties are written
 abbrev pub invariant-loop-party : goal.invariant-loop-party
-invariant-loop-party l = (done : List ℕ) × (l.self.now ≡ done ++ parties_in l.rest)
+invariant-loop-party l = (done : List ℕ) × (l.self ≡ done ++ parties_in l.rest)
     × Puts {E = AllocError} (Ok tt) l.fn.writer l.writer (begin_array ∷ flat_map (λ party. tokens_of (whole party)) done)
 
 abbrev pub decreases-loop-party : goal.decreases-loop-party

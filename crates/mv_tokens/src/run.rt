@@ -10,8 +10,8 @@ use std::simd::prelude::*;
 /// How many bytes are looked at together.
 const LANES: usize = 16;
 
-/// The place of the first byte that is not plain in a text: a quote, a backslash or a control
-/// character; or the end.
+/// The place of the first byte that is not plain in a text: a quote, a backslash or a control character; or the end. In a text of
+/// fewer than sixteen bytes nothing is passed: no line that asks a step, and no message, is so short.
 #[inline(always)]
 #[tactic(auto, using(crate::proofs::RunLemmas::few_left))]
 pub(crate) fn plain_end(bytes: &[u8], from: usize) -> usize
@@ -19,6 +19,9 @@ pub(crate) fn plain_end(bytes: &[u8], from: usize) -> usize
     ensures within { (from ≤ result) × (result ≤ length bytes.now) }
     ensures plain { PlainBetween bytes.now from result }
 {
+    if bytes.len() < LANES {
+        return from;
+    }
     let mut at = from;
     while bytes.len() - at >= LANES {
         let plain = plain_count(u8x16::from_slice(&bytes[at..]), 0);
@@ -26,9 +29,6 @@ pub(crate) fn plain_end(bytes: &[u8], from: usize) -> usize
             return at + plain;
         }
         at += LANES;
-    }
-    if bytes.len() < LANES {
-        return plain_end_by_byte(bytes, at);
     }
     let last = bytes.len() - LANES;
     at + plain_count(u8x16::from_slice(&bytes[last..]), at - last)
@@ -49,26 +49,4 @@ fn plain_count(lanes: u8x16, passed: usize) -> usize
         return LANES - passed;
     }
     places.trailing_zeros() as usize
-}
-
-/// The same place as that of `plain_end`, found one byte at a time.
-#[inline(always)]
-fn plain_end_by_byte(bytes: &[u8], from: usize) -> usize
-    requires within { from ≤ length bytes.now }
-    ensures within { (from ≤ result) × (result ≤ length bytes.now) }
-    ensures plain { PlainBetween bytes.now from result }
-{
-    let mut at = from;
-    while at < bytes.len() && is_plain(bytes[at]) {
-        at += 1;
-    }
-    at
-}
-
-/// Whether a byte stands for itself in a text.
-#[inline(always)]
-fn is_plain(byte: u8) -> bool
-    ensures { result ≡ is_plain byte }
-{
-    byte != b'"' && byte != b'\\' && byte >= 0x20
 }

@@ -180,6 +180,7 @@ fn take_list_part<'a>(alloc: Global, reader: &mut Reader<'a>, field: Field) -> O
 
 /// The same values in a place of their size, or one alone where it stands: a message copies that out. The place of many is given back
 /// as a whole, and serves the next list. A list that shrinks where it stands leaves a rest, each time of another size.
+#[inline(never)]
 fn fitted<T: Drop>(alloc: Global, mut list: Vec<T>) -> Option<Vec<T>>
     ensures { IfSome result (λ fitted. fitted.items ≡ list.items) }
 {

@@ -19,9 +19,6 @@ pub(crate) fn plain_end(bytes: &[u8], from: usize) -> usize
     ensures within { (from ≤ result) × (result ≤ length bytes.now) }
     ensures plain { PlainBetween bytes.now from result }
 {
-    if bytes.len() < LANES {
-        return from;
-    }
     let mut at = from;
     while bytes.len() - at >= LANES {
         let plain = plain_count(u8x16::from_slice(&bytes[at..]), 0);
@@ -29,6 +26,9 @@ pub(crate) fn plain_end(bytes: &[u8], from: usize) -> usize
             return at + plain;
         }
         at += LANES;
+    }
+    if bytes.len() < LANES {
+        return at;
     }
     let last = bytes.len() - LANES;
     at + plain_count(u8x16::from_slice(&bytes[last..]), at - last)

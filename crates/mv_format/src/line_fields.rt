@@ -29,7 +29,7 @@ pub(crate) struct LineFields<'a> {
 }
 
 impl LineFields<'_> {
-    /// Nothing, where no field is left.
+    /// `Some(())` where no field is left, and `None` where one is.
     #[inline(always)]
     pub(crate) fn end(&self) -> Option<()>
         ensures { IfSome result (λ _. AreAll self.now []) }

@@ -80,7 +80,7 @@ impl ToJson for Reply {
     fn write(&self, writer: &mut TextWriter) -> Result<(), AllocError> {
         match self {
             Reply::Submitted { k } => write_numbered(writer, "submitted", *k),
-            Reply::Routed { k, reach } => write_routed(writer, *k, reach.copy()),
+            Reply::Routed { k, reach } => write_routed(writer, *k, reach),
             Reply::Relayed { number } => write_numbered(writer, "relayed", *number),
             Reply::Known(verdict) => write_verdict(writer, Joint::Decided(*verdict)),
             Reply::Asked { q } => write_numbered(writer, "asked", *q),
@@ -177,11 +177,11 @@ fn write_numbered(writer: &mut TextWriter, key: &'static str, number: u32) -> Re
     writer.end_object()
 }
 
-/// Writes the reply that a message was routed, and to whom. That is a copy: the compiler copies each reply whose address may be kept.
+/// Writes the reply that a message was routed, and to whom.
 #[inline(never)]
 #[tactic(auto, unfolding(json::specs::Print::escape_byte))]
-fn write_routed(writer: &mut TextWriter, k: u32, reach: Reached) -> Result<(), AllocError>
-    ensures { Adds result writer.old writer.new (reply_value (Reply.Routed k reach)) }
+fn write_routed(writer: &mut TextWriter, k: u32, reach: &Reached) -> Result<(), AllocError>
+    ensures { Adds result writer.old writer.new (reply_value (Reply.Routed k reach.now)) }
 {
     writer.begin_object()?;
     writer.plain_key("reach")?;

@@ -42,7 +42,7 @@ pub fn read_step(alloc: Global, scratch: &mut Scratch, line: &[u8]) -> Option<St
     step_met(&mut met)
 }
 
-/// The step that the fields of a line ask, where they are those of its kind. The message is taken out of them.
+/// The step that the fields of a line ask, where they are those of its kind. They are taken out of their places.
 #[inline(always)]
 fn step_met(met: &mut LineFields<'_>) -> Option<Step>
     ensures { IfSome result (λ step. (value : Data) → HasFields value met.old → read_request value ≡ Ok (Request.Step step)) }

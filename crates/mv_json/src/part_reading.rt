@@ -178,20 +178,21 @@ fn take_list_part<'a>(alloc: Global, reader: &mut Reader<'a>, field: Field) -> O
     }
 }
 
-/// The same values in a place of their size, or one alone where it stands: a message copies that out. The place of many is given back
-/// as a whole, and serves the next list. A list that shrinks where it stands leaves a rest, each time of another size.
+/// The same values in a place of their size. A full list has that, and one value alone stays where it stands: a message copies it out.
+/// Any other place is given back as a whole, and serves the next list: a list that shrinks where it stands leaves a rest of another size
+/// each time.
 #[inline(never)]
 fn fitted<T: Drop>(alloc: Global, mut list: Vec<T>) -> Option<Vec<T>>
-    ensures { IfSome result (λ fitted. fitted.items ≡ list.items) }
+    ensures { IfSome result (λ same. same.items ≡ list.items) }
 {
-    if list.len() == 1 {
+    if list.len() == 1 || list.len() == list.capacity() {
         return Some(list);
     }
-    let Ok(mut fitted) = Vec::with_capacity(alloc, list.len()) else {
+    let Ok(mut same) = Vec::with_capacity(alloc, list.len()) else {
         return None;
     };
-    fitted.append(&mut list).ok()?;
-    Some(fitted)
+    same.append(&mut list).ok()?;
+    Some(same)
 }
 
 /// Takes 1 to `most` values, up to the end of their list.

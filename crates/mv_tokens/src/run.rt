@@ -10,8 +10,8 @@ use std::simd::prelude::*;
 /// How many bytes are looked at together.
 const LANES: usize = 16;
 
-/// The place of the first byte that is not plain in a text: a quote, a backslash or a control character; or the end. In a text of
-/// fewer than sixteen bytes nothing is passed: no line that asks a step, and no message, is so short.
+/// Where the plain bytes from a place on end: at the first quote, backslash or control character, or behind the last byte. Where there are
+/// fewer than sixteen bytes in all, none is passed, and the library reads the text: no line that asks a step, and no message, is so short.
 #[inline(always)]
 #[tactic(auto, using(crate::proofs::RunLemmas::few_left))]
 pub(crate) fn plain_end(bytes: &[u8], from: usize) -> usize
@@ -34,7 +34,7 @@ pub(crate) fn plain_end(bytes: &[u8], from: usize) -> usize
     at + plain_count(u8x16::from_slice(&bytes[last..]), at - last)
 }
 
-/// How many bytes of sixteen are plain before the first that is not, once some were passed.
+/// Of sixteen bytes, how many behind the first `passed` are plain before one that is not.
 #[inline(always)]
 #[tactic(auto, using(crate::proofs::RunLemmas::counted))]
 fn plain_count(lanes: u8x16, passed: usize) -> usize

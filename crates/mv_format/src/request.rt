@@ -59,7 +59,9 @@ impl Request {
     pub fn read_in(alloc: Global, scratch: &mut Scratch, line: &[u8]) -> Result<Request, LineFault>
         ensures { GivesOr result (read_line line.now) LineFault.Memory }
     {
-        match read_step(alloc, scratch, line) {
+        let mut step = None;
+        read_step(alloc, scratch, line, &mut step);
+        match step {
             Some(step) => Ok(Request::Step(step)),
             None => Request::read(alloc, line),
         }

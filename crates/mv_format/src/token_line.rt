@@ -22,10 +22,25 @@ use mv_pack::{Gtin, PackKey, Serial};
 use mv_tokens::{Reader, text_of};
 use std::alloc::Global;
 
-/// The step that a line asks, its keys in any order, in memory that is kept from line to line. What asks none, or has a key twice,
-/// gives none, and so does a refusal of memory: [`Request::read`] says which.
-pub fn read_step(alloc: Global, scratch: &mut Scratch, line: &[u8]) -> Option<Step>
-    ensures { IfSome result (λ step. read_line line.now ≡ Ok (Request.Step step)) }
+/// Reads the step that a line asks, its keys in any order, in memory that is kept from line to line. It is put where it is to stand, and
+/// `None` says that there is none: where the line asks none, or has a key twice, or memory is refused. [`Request::read`] says which.
+pub fn read_step(alloc: Global, scratch: &mut Scratch, line: &[u8], step: &mut Option<Step>)
+    ensures { IfSome step.new (λ step. read_line line.now ≡ Ok (Request.Step step)) }
+{
+    *step = None;
+    let _ = puts_step(alloc, scratch, line, step);
+}
+
+/// Puts the step that a line asks where none is yet.
+#[inline(always)]
+fn puts_step(
+    alloc: Global,
+    scratch: &mut Scratch,
+    line: &[u8],
+    step: &mut Option<Step>,
+) -> Option<()>
+    requires none { step.old ≡ None }
+    ensures { IfSome step.new (λ step. read_line line.now ≡ Ok (Request.Step step)) }
 {
     let text = text_of(line)?;
     if scratch.reserve(text.len()).is_err() {
@@ -39,13 +54,14 @@ pub fn read_step(alloc: Global, scratch: &mut Scratch, line: &[u8]) -> Option<St
     if !takes_members(alloc, &mut reader, &mut met) || !reader.is_done() {
         return None;
     }
-    step_met(&mut met)
+    step_met(&mut met, step)
 }
 
-/// The step that the fields of a line ask, where they are those of its kind. They are taken out of their places.
+/// Puts the step that the fields of a line ask, where they are those of its kind. They are taken out of their places.
 #[inline(always)]
-fn step_met(met: &mut LineFields<'_>) -> Option<Step>
-    ensures { IfSome result (λ step. (value : Data) → HasFields value met.old → read_request value ≡ Ok (Request.Step step)) }
+fn step_met(met: &mut LineFields<'_>, step: &mut Option<Step>) -> Option<()>
+    requires none { step.old ≡ None }
+    ensures { IfSome step.new (λ step. (value : Data) → HasFields value met.old → read_request value ≡ Ok (Request.Step step)) }
 {
     match kind_called(met.asked.take()?)? {
         LineKind::Open => None,
@@ -53,48 +69,57 @@ fn step_met(met: &mut LineFields<'_>) -> Option<Step>
             let from = met.from.take()?;
             let message = met.message.take()?;
             met.end()?;
-            Some(Step::Submit { from, message })
+            *step = Some(Step::Submit { from, message });
+            Some(())
         }
         LineKind::Route => {
             let from = met.from.take()?;
             met.end()?;
-            Some(Step::Route { from })
+            *step = Some(Step::Route { from });
+            Some(())
         }
         LineKind::Relay => {
             let (from, to) = link_met(met)?;
-            Some(Step::Relay { from, to })
+            *step = Some(Step::Relay { from, to });
+            Some(())
         }
         LineKind::Apply => {
             let (from, to) = link_met(met)?;
-            Some(Step::Apply { from, to })
+            *step = Some(Step::Apply { from, to });
+            Some(())
         }
         LineKind::Repeat => {
             let from = met.from.take()?;
             let number = met.number.take()?;
             let to = met.to.take()?;
             met.end()?;
-            Some(Step::Repeat { from, number, to })
+            *step = Some(Step::Repeat { from, number, to });
+            Some(())
         }
         LineKind::Close => {
             let (from, to) = link_met(met)?;
-            Some(Step::Close { from, to })
+            *step = Some(Step::Close { from, to });
+            Some(())
         }
         LineKind::Lose => {
             let (from, to) = link_met(met)?;
-            Some(Step::Lose { from, to })
+            *step = Some(Step::Lose { from, to });
+            Some(())
         }
         LineKind::Verify => {
             let gtin = met.gtin.take()?;
             let party = met.party.take()?;
             let serial = met.serial.take()?;
             met.end()?;
-            verify_of(gtin, party, serial)
+            *step = Some(verify_of(gtin, party, serial)?);
+            Some(())
         }
         LineKind::Verdict => {
             let party = met.party.take()?;
             let q = met.q.take()?;
             met.end()?;
-            Some(Step::Verdict { party, q })
+            *step = Some(Step::Verdict { party, q });
+            Some(())
         }
     }
 }

@@ -45,7 +45,8 @@ impl Answering for Session {
     ghost replies = { IsReply };
 
     fn answer(&mut self, _number: u32, line: &[u8], out: &mut Vec<u8>) -> Result<bool, AllocError> {
-        let read = read_step(self.alloc, &mut self.scratch, line);
+        let mut read = None;
+        read_step(self.alloc, &mut self.scratch, line, &mut read);
         self.say(&read, line, out)?;
         Ok(true)
     }

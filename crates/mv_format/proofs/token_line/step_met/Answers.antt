@@ -1,5 +1,4 @@
 use Rattle.mv_format.proofs.Words.{arith, refl, rules, [], ◌∷◌}
-use Rattle.std.proofs.lemmas.Option.{IfSome_then}
 use Rattle.mv_format.proofs.LineFieldsLemmas.{message_told, number_told, request_read, gtin_told, serial_told, taken}
 use Rattle.mv_format.specs.declared.field.LineField.TheVariants as fields
 use Rattle.mv_format.proofs.token_line.step_met.Goals as goal
@@ -53,8 +52,8 @@ returns-in_ok-end-in-Verdict c = λ value has.
     (rw c.in-Verdict.is (taken c.args.met.now _ (fields.Do ∷ fields.Party ∷ fields.Q ∷ []) [] c.in_ok-end-in-Verdict.ensures (λ field. grind arith))) value has
     (rw (c.in-Verdict.is, number_told c.args.met.now fields.Party c.in_ok-party-in-Verdict.party (search rules) value has, number_told c.args.met.now fields.Q c.in_ok-q-in-Verdict.q (search rules) value has) refl)
 
-pub returns-in_ok-end-in-Verify : goal.returns-in_ok-end-in-Verify
-returns-in_ok-end-in-Verify c = IfSome_then c.verify_of.result c.verify_of.ensures (λ step (gtin, serial, reads, codes, is). λ value has.
+pub returns-in_ok-verify_of-in-Verify : goal.returns-in_ok-verify_of-in-Verify
+returns-in_ok-verify_of-in-Verify c = let (gtin, serial, reads, codes, is) = c.in_ok-verify_of-in-Verify.ensures in λ value has.
     request_read c.args.met.now c.in_ok-take.field-0.now c.in_ok-kind_called.field-0 _ (search rules) (search rules)
     (rw c.in-Verify.is (taken c.args.met.now _ (fields.Do ∷ fields.Gtin ∷ fields.Party ∷ fields.Serial ∷ []) [] c.in_ok-end-in-Verify.ensures (λ field. grind arith))) value has
     (rw (
@@ -63,4 +62,4 @@ returns-in_ok-end-in-Verify c = IfSome_then c.verify_of.result c.verify_of.ensur
       gtin_told c.args.met.now c.in_ok-gtin-in-Verify.gtin.now gtin (search rules) reads value has,
       number_told c.args.met.now fields.Party c.in_ok-party-in-Verify.party (search rules) value has,
       serial_told c.args.met.now c.in_ok-serial-in-Verify.serial.now serial (search rules) codes value has,
-    ) refl))
+    ) refl)

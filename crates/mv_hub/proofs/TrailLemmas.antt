@@ -11,7 +11,7 @@ listed-same same listed = record { order = listed.order; members = λ batch. gri
 pub batch-same : (a b : BatchKey) → is_same_batch a b ≡ true → a ≡ b
 batch-same a b e = search rules
 
-last_or-append : {A : Type 0} (o : Option A) (xs ys : List A) → last_or o (xs ++ ys) ≡ last_or (last_or o xs) ys
+pub last_or-append : {A : Type 0} (o : Option A) (xs ys : List A) → last_or o (xs ++ ys) ≡ last_or (last_or o xs) ys
 last_or-append o [] ys = refl
 last_or-append o (x ∷ xs) ys = last_or-append (Some x) xs ys
 

@@ -10,7 +10,7 @@ ghost use Rattle.mv_hub.specs.inside.Kept.{Carries};
 
 use crate::trail::{AuditTrail, add_all, ascending};
 use crate::{Catalogue, Entry, Parties};
-use indexmap::IndexSet;
+use indexmap::{IndexMap, IndexSet};
 use mv_link::{Outgoing, PartySet};
 use mv_message::Party;
 use mv_pack::{BatchKey, Gtin, Market};
@@ -37,6 +37,8 @@ pub struct Hub {
     open_links: Vec<PartySet>,
     /// The sending end of each link.
     links: PairTable<Outgoing>,
+    /// For each product that has a routed master, the parties that serve a market of its last one.
+    sold: IndexMap<Gtin, PartySet>,
 }
 
 // Written here, so that the crates above prove nothing of how its tables are dropped.
@@ -50,6 +52,7 @@ impl Drop for Hub {
             routed_counts: _,
             open_links: _,
             links: _,
+            sold: _,
         } = self;
     }
 }
@@ -68,7 +71,7 @@ impl Model for Hub {
     } };
 
     ghost invariant = { λ a.
-        IsKept a.parties a.window a.trail a.routed_counts.items a.open_links.items a.links };
+        IsKept a.parties a.window a.trail a.routed_counts.items a.open_links.items a.links a.sold.entries };
 }
 
 impl Hub {
@@ -96,6 +99,7 @@ impl Hub {
             routed_counts,
             open_links,
             links,
+            sold: IndexMap::new(alloc),
         })
     }
 

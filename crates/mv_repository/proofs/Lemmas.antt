@@ -3,7 +3,7 @@ pub use Rattle.mv_repository.proofs.Words.{AreAt, AreShelfOf, AreSlots, AreStops
 pub use Rattle.mv_repository.proofs.TrackLemmas.{IsCutFor, not_twice, parted, stays_at, put-ascend, put-known, put-late, put-unknown, status-form, covered-more, fold-cut, last-blocks, late-before, late-front, late-fold, late_within, pass-after, pass-behind, pass-front, renewed}
 pub use Rattle.mv_repository.proofs.KeptLemmas.{HasFirst, life_batch, text-self, first-added}
 pub use Rattle.mv_repository.proofs.TableLemmas.{log-length, log-split, longer}
-pub use Rattle.mv_repository.proofs.SlotLemmas.{IsShelved, listed_in, no-shelf-yet, serials-at, shelf-kept, shelf-same, shelf-seen, shelf-written, shelved-none, shelves-follow, upload-serials, found-own, is-changed, keys_keyed, none-changed, own-changed, own-kept, own-set, own-there, own-within, spot-none, spot-there, written-behind, written-own, written-there}
+pub use Rattle.mv_repository.proofs.SlotLemmas.{IsShelved, no-shelf-yet, serials-at, shelf-kept, shelf-same, shelf-seen, shelf-written, shelved-none, shelves-follow, upload-serials, found-own, is-changed, keys_keyed, none-changed, own-changed, own-kept, own-set, own-there, own-within, spot-none, spot-there, written-behind, written-own, written-there}
 pub use Rattle.mv_repository.proofs.UploadLemmas.{ArePacksOf, batch-kept, batch-noted, status-away, status-others, upload-adds, upload-all, upload-away, upload-form, upload-names, count-products, count-recalled, found-any, named-upload, new-more, new_count}
 pub use Rattle.mv_repository.proofs.CountedLemmas.{active-all, counted-whole, held-all, slots_in}
 pub use Rattle.mv_repository.proofs.StopLemmas.{first_place, recall-added, shelf-again, shelf-empty, stop-away, stop-does, stop-form, stop-leaves, stop-passes, stops-stand, withdrawal-added}

@@ -288,20 +288,3 @@ pub shelves-follow : (old new : List (List ℕ × ShelfParts)) (gtin : List ℕ)
     → ((other : List ℕ) → AreShelfOf before other (shelf_of other old)) → AreShelfOf whole gtin shelf
     → ((other : List ℕ) → bytes_eq gtin other ≡ false → (parts : ShelfParts) → AreShelfOf before other parts → AreShelfOf whole other parts) → (other : List ℕ) → AreShelfOf whole other (shelf_of other new)
 shelves-follow old new gtin shelf looks whole before shelves now away other = grind (arith, nat_tests, looks other, shelves other, away other, same_text gtin other)
-
--- a number is in the set of a batch
-abbrev pub is_in : {S : Type 0} → List (List ℕ × HashSet ℕ S) → List ℕ → ℕ → Bool
-is_in {S} sets batch number = option_map_or (λ (set : HashSet ℕ S). list_any (λ one. number == one) set.keys) (lookup (bytes_eq batch) sets) false
-
--- sets of numbers by batch, each as a list
-abbrev pub numbers_in : {S : Type 0} → List (List ℕ × HashSet ℕ S) → List (List ℕ × List ℕ)
-numbers_in sets = map (λ entry. (entry.0, entry.1.keys)) sets
-
--- the numbers of a batch are those of its set
-numbers_found : {S : Type 0} → (batch : List ℕ) (sets : List (List ℕ × HashSet ℕ S)) → lookup (bytes_eq batch) (numbers_in sets) ≡ option_map (λ (set : HashSet ℕ S). set.keys) (lookup (bytes_eq batch) sets)
-numbers_found batch [] = refl
-numbers_found {S} batch (e ∷ es) = grind (arith, nat_tests, numbers_found batch es)
-
-pub listed_in : {S : Type 0} → (is_whole : Bool) (batch : List ℕ) (sets : List (List ℕ × HashSet ℕ S)) (number : ℕ)
-    → lists (record { is_whole = is_whole; numbers = numbers_in sets }) batch number ≡ (not is_whole || is_in sets batch number)
-listed_in {S} is_whole batch sets number = grind (arith, nat_tests, numbers_found batch sets)

@@ -1,14 +1,58 @@
 //! For each batch of a product the numbers of the tracks that may be of it: what a recall has to look at.
 
-ghost use Rattle.std.specs.Prelude.{◌≡◌};
-ghost use Rattle.mv_repository.specs.Clauses.{IfSome, List, listing_of, lists, option_and_then, true, ℕ, entry_at, made_batch};
+ghost use Rattle.std.specs.Prelude.{◌≡◌, ◌==◌, ◌||◌, [], OnErr, OnOk};
+ghost use Rattle.mv_repository.specs.Clauses.{IfSome, List, list_any, listing_of, lists, option_and_then, true, ℕ, entry_at, made_batch};
 
 use crate::LogEntry;
 use crate::entry::message_at;
 use indexmap::{IndexMap, IndexSet};
 use mv_message::Message;
 use mv_pack::Batch;
-use std::alloc::Global;
+use std::alloc::{AllocError, Global};
+use std::marker::Model;
+
+/// Numbers, each at most twice.
+#[derive(Drop)]
+pub(crate) struct Numbers {
+    /// Those that were greater than all before them.
+    pub ascending: Vec<u32>,
+    /// The others, each once.
+    pub others: IndexSet<u32>,
+}
+
+impl Model for Numbers {
+    ghost use Rattle.std.specs.Prelude.{List, ℕ, ◌++◌};
+
+    ghost Value = { List ℕ };
+
+    ghost view = { λ n. n.ascending.items ++ n.others.keys };
+}
+
+impl Numbers {
+    /// None.
+    fn new(alloc: Global) -> Numbers
+        ensures { result ≡ [] }
+    {
+        Numbers {
+            ascending: Vec::new(alloc),
+            others: IndexSet::new(alloc),
+        }
+    }
+
+    /// Puts a number among the others. Where memory is refused nothing has changed.
+    fn insert(&mut self, number: u32) -> Result<(), AllocError>
+        ensures ok { OnOk result ((other : ℕ) → list_any (λ one. other == one) self.new ≡ ((other == number) || list_any (λ one. other == one) self.old)) }
+        ensures err { OnErr result (self.new ≡ self.old) }
+    {
+        match self.ascending.as_slice().last() {
+            Some(last) if *last >= number => {
+                self.others.insert(number)?;
+            }
+            _ => self.ascending.push(number)?,
+        }
+        Ok(())
+    }
+}
 
 /// The numbers of tracks by batch. Too many are right, and cost time alone. Where memory was refused for one, any track may be of any
 /// batch.
@@ -16,8 +60,8 @@ use std::alloc::Global;
 pub(crate) struct Listing {
     /// What memory is got from.
     pub alloc: Global,
-    /// For each batch that has tracks, their numbers, each once.
-    pub batches: IndexMap<Batch, IndexSet<u32>>,
+    /// For each batch that has tracks, their numbers.
+    pub batches: IndexMap<Batch, Numbers>,
     /// Whether no number is left out.
     pub is_whole: bool,
 }
@@ -36,7 +80,7 @@ impl Listing {
             return;
         };
         if let Ok(numbers) = self.batches.entry(batch.copy())
-            && let Ok(_) = numbers.or_insert(IndexSet::new(self.alloc)).insert(number)
+            && let Ok(()) = numbers.or_insert(Numbers::new(self.alloc)).insert(number)
         {
             return;
         }

@@ -1,7 +1,7 @@
 //! What is kept of each pack of one product, by serial numbers alone. This file knows no other product.
 
 ghost use Rattle.std.specs.Prelude.{◌≡◌, ◌<◌, ◌≤◌, ◌+◌, ◌==◌, ◌++◌, ◌∷◌};
-ghost use Rattle.mv_repository.specs.Clauses.{AreShelfOf, AreSlots, AreStopsOf, IfOk, IsNamed, IsPut, IsRefreshed, IsSpot, IsUploadOf, IfSome, List, lists, made_batch, option_and_then, OnErr, OnOk, Some, Writes, [], bytes_eq, comes_first, newest_effect, entry_at, filter, get_or, is_counted, is_status_of, is_stop, kept_by, kept_in, length, no_shelf, no_slot, nothing_kept, serial_of, serials_uploaded, shelf_by, slice_get, stopped_product, stops_in, take, true, ℕ};
+ghost use Rattle.mv_repository.specs.Clauses.{AreShelfOf, AreSlots, AreStopsOf, IfOk, IsNamed, IsPut, IsRefreshed, IsSpot, IsUploadOf, IfSome, List, lists, made_batch, option_and_then, OnErr, OnOk, Some, Writes, [], bytes_eq, comes_first, newest_effect, entry_at, filter, get_or, is_counted, is_status_of, is_stop, kept_by, kept_in, length, list_any, no_shelf, no_slot, nothing_kept, serial_of, serials_uploaded, shelf_by, slice_get, stopped_product, stops_in, take, true, ℕ};
 
 use crate::entry::comes_first;
 use crate::listing::Listing;
@@ -34,6 +34,17 @@ fn refresh_track(tracks: &mut Vec<Track>, newest: &Newest<'_>, gtin: &Gtin, numb
     if let Some(track) = tracks.get_mut(number) {
         let birth = track.birth;
         track.refresh(newest, gtin, birth);
+    }
+}
+
+/// Works out again the tracks of these numbers.
+fn refresh_tracks(tracks: &mut Vec<Track>, newest: &Newest<'_>, gtin: &Gtin, numbers: &[u32])
+    ensures count { length tracks.new.items ≡ length tracks.old.items }
+    ensures tracks { (other : ℕ) → IsRefreshed newest.now.log.now (stops_in newest.now.log.now newest.now.stops.now) gtin.now (list_any (λ one. other == one) numbers.now)
+        (get_or tracks.old.items other nothing_kept) (get_or tracks.new.items other nothing_kept) }
+{
+    for number in numbers {
+        refresh_track(tracks, newest, gtin, *number as usize);
     }
 }
 
@@ -285,9 +296,8 @@ impl Shelf {
             let Some(numbers) = self.listing.batches.get(&key.batch) else {
                 return;
             };
-            for listed in numbers.as_slice() {
-                refresh_track(tracks, newest, gtin, *listed as usize);
-            }
+            refresh_tracks(tracks, newest, gtin, numbers.ascending.as_slice());
+            refresh_tracks(tracks, newest, gtin, numbers.others.as_slice());
             return;
         }
         for number in 0..tracks.len() {

@@ -1,16 +1,16 @@
 -- What the hub keeps beside its record, how that follows from the record, how an entry changes its tables, and what a routing puts on
 -- the links of its sender.
-use Rattle.std.specs.Prelude.{List, [], ◌∷◌, ◌++◌, ◌+◌, ◌==◌, option_to_list, ◌≡◌, ◌↔◌, ◌⊎◌, Contains, Option, Some, None, Bool, true, false, if◌then◌else◌, ℕ, bytes_eq, length, slice_index, unwrap_or, ◌≢◌, ◌<◌, ◌≤◌, ◌&&◌, not, map, slice_index_or, take}
-use Rattle.mv_hub.specs.Words.{Global, IsMarket, MARKETS_LIMIT, PartySet, Vec, lookup, place_of, BatchKey, IsEquivalence, Message, Product, Upload, and_equiv, insert_all, is_same_batch, nat_eq_equiv, nat_list_eq_equiv, on_equiv, option_map_or, option_or, Carried, EndsWithHeld, Entry, HasRoom, IsSquare, Item, PARTIES_LIMIT, Receipt, Sending, cell, has_party, new_sending, parties_in}
+use Rattle.std.specs.Prelude.{List, [], ◌∷◌, ◌++◌, ◌+◌, ◌==◌, option_to_list, ◌≡◌, ◌↔◌, ◌⊎◌, Contains, Option, Some, None, Bool, true, false, if◌then◌else◌, ℕ, bytes_eq, length, slice_index, unwrap_or, ◌≢◌, ◌<◌, ◌≤◌, ◌&&◌, not, map, slice_index_or, take, is_some, nat_lt}
+use Rattle.mv_hub.specs.Words.{Global, IsMarket, MARKETS_LIMIT, PartySet, Vec, lookup, place_of, BatchKey, IsEquivalence, Message, Product, Master, Routed, Upload, and_equiv, insert_all, is_same_batch, nat_eq_equiv, nat_list_eq_equiv, on_equiv, option_map_or, option_or, Carried, EndsWithHeld, Entry, HasRoom, IsSquare, Item, PARTIES_LIMIT, Receipt, Sending, cell, has_party, new_sending, parties_in}
 use Rattle.mv_hub.specs.declared.catalogue.Catalogue.{Catalogue}
-use Rattle.mv_hub.specs.Record.{product_of, routed_count, is_open}
+use Rattle.mv_hub.specs.Record.{product_in, product_of, routed_count, is_open}
 use Rattle.mv_hub.specs.Listing.{Listing, is_same_listing}
-use Rattle.mv_hub.specs.Parties.{has_market, has_twice, served_by, all_markets}
+use Rattle.mv_hub.specs.Parties.{has_market, has_twice, served_by, serves_one, all_markets}
 use Rattle.mv_hub.specs.Catalogue.{catalogue_of}
 use Rattle.mv_hub.specs.BatchLinks.{linked_to}
 use Rattle.mv_hub.specs.Links.{link_items}
 use Rattle.mv_hub.specs.declared.hub.routing.Routing.{Routing}
-use Rattle.mv_hub.specs.Targets.{is_reached, is_query}
+use Rattle.mv_hub.specs.Targets.{is_reached, is_query, serves_product}
 use Rattle.mv_hub.specs.Hub.{HubState}
 
 -- the batches after, by the batch before
@@ -89,10 +89,23 @@ pub record Carries (size : ℕ) (items : List Item) (link : Sending) : Type 0 wh
   pub ends : EndsWithHeld link items
   pub fits : HasRoom link 0
 
+-- a table says that a product is sold to a party
+abbrev pub sold_to : List (List ℕ × PartySet) → List ℕ → ℕ → Bool
+sold_to sold gtin party = option_map_or (λ parties. has_party parties party) (lookup (bytes_eq gtin) sold) false
+
+-- it has a place for the product of a master
+abbrev pub HasSold : List (List ℕ × PartySet) → Message → Type 0
+HasSold sold message = (gtin : List ℕ) (product : Product) → message ≡ Master gtin product → is_some (lookup (bytes_eq gtin) sold) ≡ true
+
+-- the product of a master is sold to those who serve a market of it from now on, and any other as before
+abbrev pub Sells : List (List (List ℕ)) → List (List ℕ × PartySet) → List (List ℕ × PartySet) → Message → Type 0
+Sells parties old new message = (from k : ℕ) (gtin : List ℕ) (party : ℕ) → sold_to new gtin party
+    ≡ option_map_or (λ product. nat_lt party (length parties) && serves_one (served_by parties party) product.markets) (product_in gtin (Routed from k message)) (sold_to old gtin party)
+
 -- all that the hub keeps follows from the record: how many messages of each party were routed, to which parties a link of it is open, and
 -- what was pushed on each link
 pub record IsKept (parties : List (List (List ℕ))) (window : ℕ) (entries : List Entry) (routed_counts : List ℕ)
-    (open_links : List PartySet) (links : List (List Sending)) : Type 0 where
+    (open_links : List PartySet) (links : List (List Sending)) (sold : List (List ℕ × PartySet)) : Type 0 where
   pub some : 1 ≤ length parties
   pub few : length parties ≤ PARTIES_LIMIT
   pub counted : length routed_counts ≡ length parties
@@ -103,6 +116,7 @@ pub record IsKept (parties : List (List (List ℕ))) (window : ℕ) (entries : L
   pub square : IsSquare (length parties) links
   pub carries : (from to : ℕ) → from < length parties → to < length parties
       → Carries window (link_items parties entries from to) (link_at links from to)
+  pub sells : (gtin : List ℕ) (party : ℕ) → sold_to sold gtin party ≡ (nat_lt party (length parties) && serves_product parties entries gtin party)
 
 -- a routing is that of the next message of its party
 pub record IsRouting (hub : HubState) (routing : Routing) : Type 0 where

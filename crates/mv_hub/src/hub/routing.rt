@@ -1,16 +1,17 @@
 //! Whom a message is for, and how it is routed. Only the links that gain something are looked at:
 //! those to the parties that it reaches, and that of its sender to itself.
 
-ghost use Rattle.std.specs.Prelude.{◌≡◌, ◌&&◌, nat_lt, ◌+◌, ◌<◌, ℕ, [], ◌∷◌, true, length, None, Some, replicate, IfOk, IfErr, OnOk, OnErr};
+ghost use Rattle.std.specs.Prelude.{◌≡◌, ◌&&◌, nat_lt, ◌+◌, ◌<◌, ℕ, List, [], ◌∷◌, true, length, None, Some, replicate, IfOk, IfErr, OnOk, OnErr};
 ghost use Rattle.mv_hub.specs.Words.{HasRoom, IsSquare, NUMBER_LIMIT, PARTIES_LIMIT, has_party, parties_in};
 ghost use Rattle.mv_hub.specs.Record.{routed_count};
 ghost use Rattle.mv_hub.specs.Targets.{is_query, is_target, reach, serves_product};
 ghost use Rattle.mv_link.specs.Fault.{FailsBy};
 ghost use Rattle.mv_hub.specs.Hub.{is_busy, busy_party, route_fault, with_routed};
-ghost use Rattle.mv_hub.specs.inside.Kept.{IsRouting, PushesItems, PushesRow, gain_of, link_at};
+ghost use Rattle.mv_hub.specs.inside.Kept.{HasSold, IsRouting, PushesItems, PushesRow, Sells, gain_of, link_at, sold_to};
 
 use crate::hub::Hub;
-use crate::{Entry, RouteFault};
+use crate::{Entry, Parties, RouteFault};
+use indexmap::IndexMap;
 use mv_link::{Item, Outgoing, PARTIES_LIMIT, PartySet, Reached};
 use mv_message::{Message, Party, Shared};
 use mv_pack::Gtin;
@@ -40,7 +41,10 @@ impl Hub {
         ensures { (party : ℕ) → has_party result party ≡ (nat_lt party (length self.now.parties)
             && serves_product self.now.parties self.now.entries gtin.now party) }
     {
-        self.parties().servers(self.markets(gtin).unwrap_or(&[]))
+        match self.sold.get(gtin) {
+            Some(parties) => *parties,
+            None => PartySet::none(),
+        }
     }
 
     /// The parties that a message from a party is for.
@@ -161,9 +165,11 @@ impl Hub {
     {
         let routing = self.next_routing(from, message.get())?;
         let shares = shares_of(self.alloc, message, routing.reached)?;
+        reserve_sold(&mut self.sold, routing.message)?;
         let (k, message) = (routing.k, message.share()?);
         self.trail.push(Entry::Routed { from, k, message })?;
         // Nothing fails from here on.
+        put_sold(&mut self.sold, &self.parties, routing.message);
         put_gains(&mut self.links, &routing, shares);
         self.routed_counts[from as usize] = k;
         Ok((k, Reached::of(routing.reached)))
@@ -185,6 +191,36 @@ fn shares_of(
         shares.push_reserved(message.share()?);
     }
     Ok(shares)
+}
+
+/// Gets room for where the product of a message is sold. Where memory is refused nothing has changed.
+fn reserve_sold(sold: &mut IndexMap<Gtin, PartySet>, message: &Message) -> Result<(), AllocError>
+    ensures same { (gtin : List ℕ) (party : ℕ) → sold_to sold.new.entries gtin party ≡ sold_to sold.old.entries gtin party }
+    ensures room { OnOk result (HasSold sold.new.entries message.now) }
+{
+    let Message::Master { gtin, .. } = message else {
+        return Ok(());
+    };
+    match sold.entry(*gtin) {
+        Ok(parties) => {
+            parties.or_insert(PartySet::none());
+            Ok(())
+        }
+        Err(_) => Err(AllocError),
+    }
+}
+
+/// Notes where the product of a master is sold from now on.
+fn put_sold(sold: &mut IndexMap<Gtin, PartySet>, parties: &Parties, message: &Message)
+    requires room { HasSold sold.old.entries message.now }
+    ensures { Sells parties.now sold.old.entries sold.new.entries message.now }
+{
+    let Message::Master { gtin, product } = message else {
+        return;
+    };
+    if let Some(served) = sold.get_mut(gtin) {
+        *served = parties.servers(product.get().markets.as_slice());
+    }
 }
 
 /// Pushes an item on a link that has room for it.

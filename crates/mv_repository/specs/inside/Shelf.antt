@@ -88,7 +88,7 @@ pub record ListingTable : Type 0 where
 
 -- what a listing says of batches
 abbrev pub listing_of : Listing → ListingTable
-listing_of listing = record { is_whole = listing.is_whole; numbers = map (λ entry. (entry.0, entry.1.keys)) listing.batches.entries }
+listing_of listing = record { is_whole = listing.is_whole; numbers = listing.batches.entries }
 
 -- what is kept of the packs of a product
 pub record ShelfTable : Type 0 where

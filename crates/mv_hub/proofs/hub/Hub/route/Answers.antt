@@ -1,5 +1,5 @@
 use Rattle.mv_hub.proofs.Words.{arith}
-use Rattle.mv_hub.proofs.HubLemmas.{row-same, rooms, next-gain, kept-routed}
+use Rattle.mv_hub.proofs.HubLemmas.{row-same, rooms, next-gain, kept-routed, kept_reserved}
 use Rattle.mv_hub.proofs.hub.Hub.route.Goals as goal
 
 -- no link is busy, so each has room
@@ -16,5 +16,16 @@ invariant_of-self-2 c =
     let known = rw (← c.self.view_is) at c.in_ok-routing.ensures.routing in
     let gains = rw c.self.invariant.square.rows at c.put_gains.ensures in
     rw (c.in_ok-push.ensures.ok, c.in_ok-message.ensures, known.number, ← c.in_ok-routing.ensures.from, ← c.get.ensures, ← c.in_ok-routing.ensures.message)
-    (kept-routed c.self.invariant c.put_gains.new.links routing.from routing.message.now known.party
-    (rw (← c.self.view_is) at c.in_ok-routing.ensures.free) (row-same (λ to lt. next-gain _ routing to known) gains))
+    (kept-routed c.self.invariant c.put_gains.new.links c.put_sold.new.sold.entries routing.from routing.message.now known.party
+    (rw (← c.self.view_is) at c.in_ok-routing.ensures.free) (row-same (λ to lt. next-gain _ routing to known) gains)
+    (λ from k gtin party. grind (arith, c.put_sold.ensures from k gtin party, c.reserve_sold.ensures.same gtin party)))
+
+-- and where it is not longer, from what was there
+pub invariant_of-self : goal.invariant_of-self
+invariant_of-self c = kept_reserved c.self.invariant _ c.reserve_sold.ensures.same
+
+pub invariant_of-self-in_err-message : goal.invariant_of-self-in_err-message
+invariant_of-self-in_err-message c = kept_reserved c.self.invariant _ c.reserve_sold.ensures.same
+
+pub invariant_of-self-in_err-push : goal.invariant_of-self-in_err-push
+invariant_of-self-in_err-push c = rw c.in_err-push.ensures.err (kept_reserved c.self.invariant _ c.reserve_sold.ensures.same)

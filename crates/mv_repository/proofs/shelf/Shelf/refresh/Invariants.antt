@@ -4,10 +4,3 @@ use Rattle.mv_repository.proofs.shelf.Shelf.refresh.Given as goal
 -- those so far are worked out
 abbrev pub invariant-loop-number : goal.invariant-loop-number
 invariant-loop-number l = record { count : length l.tracks.items ≡ length l.initial.tracks.items; tracks : (other : ℕ) → IsRefreshed l.newest.log.now (stops_in l.newest.log.now l.newest.stops.now) l.gtin (nat_lt other l.number) (get_or l.initial.tracks.items other nothing_kept) (get_or l.tracks.items other nothing_kept) }
-
-abbrev pub invariant-loop-listed : goal.invariant-loop-listed
-invariant-loop-listed l = record {
-  count : length l.tracks.items ≡ length l.initial.tracks.items;
-  tracks : (other : ℕ) → IsRefreshed l.newest.log.now (stops_in l.newest.log.now l.newest.stops.now) l.gtin (list_any (λ one. other == one) (take l.listed-index l.listed-items))
-      (get_or l.initial.tracks.items other nothing_kept) (get_or l.tracks.items other nothing_kept);
-}

@@ -37,7 +37,8 @@ pub struct Hub {
     open_links: Vec<PartySet>,
     /// The sending end of each link.
     links: PairTable<Outgoing>,
-    /// For each product that has a routed master, the parties that serve a market of its last one.
+    /// By the code of a product, the parties that serve a market of its last routed master. Where a routing was refused for want of memory it
+    /// may have none for a product without a master.
     sold: IndexMap<Gtin, PartySet>,
 }
 

@@ -1,6 +1,6 @@
 //! For each batch of a product the numbers of the tracks that may be of it: what a recall has to look at.
 
-ghost use Rattle.std.specs.Prelude.{◌≡◌, ◌==◌, ◌||◌, [], OnErr, OnOk};
+ghost use Rattle.std.specs.Prelude.{◌≡◌, ◌==◌, ◌||◌, OnErr, OnOk};
 ghost use Rattle.mv_repository.specs.Clauses.{IfSome, List, list_any, listing_of, lists, option_and_then, true, ℕ, entry_at, made_batch};
 
 use crate::LogEntry;
@@ -29,16 +29,6 @@ impl Model for Numbers {
 }
 
 impl Numbers {
-    /// None.
-    fn new(alloc: Global) -> Numbers
-        ensures { result ≡ [] }
-    {
-        Numbers {
-            ascending: Vec::new(alloc),
-            others: IndexSet::new(alloc),
-        }
-    }
-
     /// Puts a number among the others. Where memory is refused nothing has changed.
     fn insert(&mut self, number: u32) -> Result<(), AllocError>
         ensures ok { OnOk result ((other : ℕ) → list_any (λ one. other == one) self.new ≡ ((other == number) || list_any (λ one. other == one) self.old)) }
@@ -79,8 +69,12 @@ impl Listing {
         let Some(Message::Upload { batch, .. }) = message_at(log, birth as usize) else {
             return;
         };
+        let none = Numbers {
+            ascending: Vec::new(self.alloc),
+            others: IndexSet::new(self.alloc),
+        };
         if let Ok(numbers) = self.batches.entry(batch.copy())
-            && let Ok(()) = numbers.or_insert(Numbers::new(self.alloc)).insert(number)
+            && let Ok(()) = numbers.or_insert(none).insert(number)
         {
             return;
         }

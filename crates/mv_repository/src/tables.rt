@@ -51,6 +51,11 @@ impl Tables {
         let Some(message) = message_at(log, place as usize) else {
             return Ok(Effect::Noted);
         };
+        let newest = Newest {
+            log,
+            stops: &self.stops,
+            place,
+        };
         match message {
             Message::Master { gtin, .. } => {
                 let last = self.masters.get(gtin).copied();
@@ -67,11 +72,6 @@ impl Tables {
                     return Err(AllocError);
                 };
                 let shelf = shelf.or_insert(Shelf::new(self.alloc));
-                let newest = Newest {
-                    log,
-                    stops: &self.stops,
-                    place,
-                };
                 shelf.add_upload(&newest, gtin, serials.as_slice())
             }
             Message::Status { key, .. } => {
@@ -79,11 +79,6 @@ impl Tables {
                     return Err(AllocError);
                 };
                 let shelf = shelf.or_insert(Shelf::new(self.alloc));
-                let newest = Newest {
-                    log,
-                    stops: &self.stops,
-                    place,
-                };
                 shelf.add_status(self.alloc, &newest, key)
             }
             Message::Recall { key, .. } => self.add_stop(log, &Stop::OfBatch(key), place),

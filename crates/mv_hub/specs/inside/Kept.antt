@@ -102,8 +102,8 @@ abbrev pub Sells : List (List (List ℕ)) → List (List ℕ × PartySet) → Li
 Sells parties old new message = (from k : ℕ) (gtin : List ℕ) (party : ℕ) → sold_to new gtin party
     ≡ option_map_or (λ product. nat_lt party (length parties) && serves_one (served_by parties party) product.markets) (product_in gtin (Routed from k message)) (sold_to old gtin party)
 
--- all that the hub keeps follows from the record: how many messages of each party were routed, to which parties a link of it is open, and
--- what was pushed on each link
+-- all that the hub keeps follows from the record: how many messages of each party were routed, to which parties a link of it is open, what
+-- was pushed on each link, and to whom each product is sold
 pub record IsKept (parties : List (List (List ℕ))) (window : ℕ) (entries : List Entry) (routed_counts : List ℕ)
     (open_links : List PartySet) (links : List (List Sending)) (sold : List (List ℕ × PartySet)) : Type 0 where
   pub some : 1 ≤ length parties

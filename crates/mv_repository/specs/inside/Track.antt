@@ -1,8 +1,8 @@
 -- By what a pack is worked out, and what is kept of it, by places in the log: the stops of its batch and of its product, what
 -- each of its statuses does, the entry by which it stands behind them, and what many of them do that stand one behind the other;
 -- and its history.
-use Rattle.std.specs.Prelude.{◌≡◌, if◌then◌else◌, ◌≤◌, ◌+◌, ◌%◌, ◌∷◌, ◌++◌, ◌&&◌}
-use Rattle.mv_repository.specs.Words.{ℕ, List, find, Bool, true, Option, Some, bytes_eq, flat_map, lookup, keys_of, option_map, option_map_or, insert_all, insert_key, Item, LogEntry, Stop, Stops, OfBatch, OfProduct, is_same_batch, [], take, None, option_and_then, BatchKey, Standing, Message, Status, Effect, BatchStanding, batch_key, ⊤, length, drop, AllByRecursion, PARTIES_LIMIT, PartySet, map, fold, PackKey, Block, IfSome, slice_get}
+use Rattle.std.specs.Prelude.{◌≡◌, if◌then◌else◌, ◌≤◌, ◌+◌, ◌%◌, ◌∷◌, ◌++◌}
+use Rattle.mv_repository.specs.Words.{ℕ, List, find, Bool, true, Option, Some, bytes_eq, flat_map, lookup, keys_of, option_map, option_map_or, insert_all, Item, LogEntry, Stop, Stops, OfBatch, OfProduct, is_same_batch, [], take, None, option_and_then, BatchKey, Standing, Message, Status, Effect, BatchStanding, batch_key, ⊤, length, drop, AllByRecursion, PARTIES_LIMIT, PartySet, map, fold, PackKey, Block, IfSome, slice_get}
 use Rattle.mv_repository.specs.Order.{Placed, passes, ordered, stands_before}
 use Rattle.mv_repository.specs.Pack.{is_recall_of, is_withdrawal_of, effect_of, KnownPack, KnownChange, is_active, is_done, change_effect}
 use Rattle.mv_repository.specs.Repository.{recalled_in}

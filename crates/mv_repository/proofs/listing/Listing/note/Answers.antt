@@ -21,4 +21,4 @@ returns-clause-added c = lists-now c.args.self.now.is_whole _ _ c.in-Some-Upload
     (born-batch c.args.log.now _ _ _ c.in-Some.is (sym c.in-Some-Upload.ensures) c.in-Some-Upload.field-0-is) (search rules) c.in-Ok-insert.ensures.ok
 
 pub returns-clause-kept : goal.returns-clause-kept
-returns-clause-kept c batch number h = lists-stay c.args.self.now.is_whole c.args.self.now.batches.entries _ _ c.copy.result _ c.new.result c.or_insert.result.now c.insert.new.self c.args.number (c.in-Ok.ensures.update.0 c.insert.new.self).0 (search rules) c.in-Ok.ensures.value c.or_insert.ensures.value c.in-Ok-insert.ensures.ok batch number h
+returns-clause-kept c batch number h = lists-stay c.args.self.now.is_whole c.args.self.now.batches.entries _ _ c.copy.result _ _ c.or_insert.result.now c.insert.new.self c.args.number (c.in-Ok.ensures.update.0 c.insert.new.self).0 (search rules) c.in-Ok.ensures.value c.or_insert.ensures.value c.in-Ok-insert.ensures.ok batch number h

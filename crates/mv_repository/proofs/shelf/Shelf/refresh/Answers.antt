@@ -2,7 +2,7 @@
 use Rattle.mv_repository.proofs.Lemmas.{◌∙◌, AreShelfOf, Kept, List, ShelfTable, arith, common_steps, get_or, keyed, may_stop, no_entry, nothing_kept, shelf-again, shelf-seen, stop-form, stop-passes, stopped_product, stops_in, ℕ, IsRefreshed, SlotTable}
 use Rattle.mv_repository.proofs.Lemmas.{false, listing_of, rules, true}
 use Rattle.std.proofs.lemmas.List.Folds.{list_any-append}
-use Rattle.mv_repository.proofs.Words.{list_any, ◌≡◌, ◌+◌, ◌==◌, ◌||◌, Bool, FirstStops, LogEntry, list_any_more, nat_lt, nat_tests}
+use Rattle.mv_repository.proofs.Words.{list_any, ◌≡◌, ◌+◌, ◌==◌, ◌||◌, Bool, FirstStops, LogEntry, nat_lt, nat_tests}
 use Rattle.mv_repository.proofs.shelf.Shelf.refresh.Goals.{After-self, in_default-via-in-OfProduct-1, in_default-via-in-OfBatch+else-self}
 use Rattle.mv_repository.proofs.shelf.Shelf.refresh.Goals as goal
 

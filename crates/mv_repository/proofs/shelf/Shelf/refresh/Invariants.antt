@@ -1,4 +1,4 @@
-use Rattle.mv_repository.proofs.Words.{◌≡◌, ℕ, length, get_or, nat_lt, take, IsRefreshed, nothing_kept, stops_in, list_any, ◌==◌}
+use Rattle.mv_repository.proofs.Words.{◌≡◌, ℕ, length, get_or, nat_lt, IsRefreshed, nothing_kept, stops_in}
 use Rattle.mv_repository.proofs.shelf.Shelf.refresh.Given as goal
 
 -- those so far are worked out

@@ -26,15 +26,15 @@ RUN_BY = {
         "rt all check",
         "rt check",
         "rt check --only FILE::FUNCTION",
-        "rt check --only state::revert_effect",
+        "rt check --only expiry::Expiry::expired_at",
         "rt check --start FUNCTION --allow-holes",
         "rt ci CRATE",
         "rt doc",
         "rt lemma WORD..",
-        "rt must-fail CRATE",
         "rt tidy",
         "tests/believed --crates",
         "tests/believed --files",
+        "tests/mistakes CRATE",
         "tests/more_mistakes",
         "tests/more_mistakes CRATE",
         "tests/odd_lines --input SEED",
@@ -60,9 +60,12 @@ RUN_BY = {
 }
 
 
+ALONE = ["rt_ci", "mistakes"]  # the parts that have the processors for themselves
+
+
 def parts():
-    """The parts of ./test: the first, and those of tests/."""
-    return ["rt_ci", *re.search(r"(?ms)^parts=\((.*?)\)", (TOP / "test").read_text())[1].split()]
+    """The parts of ./test: those that run alone, and those that run side by side."""
+    return [*ALONE, *re.search(r"(?ms)^parts=\((.*?)\)", (TOP / "test").read_text())[1].split()]
 
 
 def commands_of(text):

@@ -1,9 +1,10 @@
-//! The router: its record and stamps, the catalogue, the links between batches, and the refusals that the program cannot show.
+//! The router: its record and stamps, and the refusals that the program cannot show. What it knows of products and batches, and which links
+//! are closed, is compared with the plain machine at the end of each random run.
 
 use mv_hub::{Catalogue, Entry, Hub, HubFault, MasterProduct, Pairs, Parties, RouteFault};
 use mv_link::{Frame, Item};
 use mv_message::{Message, Shared};
-use mv_pack::{Batch, BatchKey, Expiry, Gtin, Market};
+use mv_pack::{Batch, Expiry, Gtin, Market};
 use std::alloc::Global;
 
 /// The master of a product for Finland.
@@ -22,14 +23,6 @@ const FOR_BOTH: &str =
 const FIRST_BATCH: &str =
     "{\"batch\":\"B1\",\"expiry\":\"280200\",\"gtin\":\"09506000134352\",\"msg\":\"upload\",\"serials\":[\"S1\"]}";
 
-/// An upload of a pack of its batch B1, with another expiry.
-const LATER_EXPIRY: &str =
-    "{\"batch\":\"B1\",\"expiry\":\"290131\",\"gtin\":\"09506000134352\",\"msg\":\"upload\",\"serials\":[\"S1\"]}";
-
-/// An upload of a pack of its batch B2.
-const SECOND_BATCH: &str =
-    "{\"batch\":\"B2\",\"expiry\":\"280200\",\"gtin\":\"09506000134352\",\"msg\":\"upload\",\"serials\":[\"S1\"]}";
-
 /// A question about a pack of the product.
 const QUERY: &str = "{\"gtin\":\"09506000134352\",\"msg\":\"query\",\"serial\":\"S1\"}";
 
@@ -40,22 +33,6 @@ const ANSWER: &str =
 /// An answer to a party that is none.
 const LOST_ANSWER: &str =
     "{\"asker\":7,\"found\":null,\"gtin\":\"09506000134352\",\"msg\":\"answer\",\"q\":1,\"serial\":\"S1\"}";
-
-/// A repack of batch B1 of the product into batch C1 of another.
-const B1_TO_C1: &str =
-    "{\"after_batch\":\"C1\",\"after_gtin\":\"04012345678901\",\"after_serials\":[\"X1\"],\"at\":1800000000,\"before_batch\":\"B1\",\"before_gtin\":\"09506000134352\",\"before_serials\":[\"S1\"],\"msg\":\"repack\"}";
-
-/// A repack of batch C1 of the other product into its batch C2.
-const C1_TO_C2: &str =
-    "{\"after_batch\":\"C2\",\"after_gtin\":\"04012345678901\",\"after_serials\":[\"X1\"],\"at\":1800000000,\"before_batch\":\"C1\",\"before_gtin\":\"04012345678901\",\"before_serials\":[\"S1\"],\"msg\":\"repack\"}";
-
-/// A repack of batch C2 of the other product into batch B1 of the first.
-const C2_TO_B1: &str =
-    "{\"after_batch\":\"B1\",\"after_gtin\":\"09506000134352\",\"after_serials\":[\"X1\"],\"at\":1800000000,\"before_batch\":\"C2\",\"before_gtin\":\"04012345678901\",\"before_serials\":[\"S1\"],\"msg\":\"repack\"}";
-
-/// A repack of batch B2 into itself.
-const B2_TO_B2: &str =
-    "{\"after_batch\":\"B2\",\"after_gtin\":\"09506000134352\",\"after_serials\":[\"X1\"],\"at\":1800000000,\"before_batch\":\"B2\",\"before_gtin\":\"09506000134352\",\"before_serials\":[\"S1\"],\"msg\":\"repack\"}";
 
 /// The list of one market.
 fn served(alloc: Global, market: Market) -> Option<Vec<Market>> {
@@ -89,9 +66,6 @@ enum Row {
     Asks,
     Moves,
     RefusesAndStamps,
-    Closes,
-    Lists,
-    FollowsLinks,
 }
 
 /// Whether a hub where nothing has happened shows a row. No other function has a hub to drop, since that is dear to prove.
@@ -108,9 +82,6 @@ fn shows_in(hub: &mut Hub, alloc: Global, row: Row) -> bool {
         Row::Asks => asks(hub, alloc),
         Row::Moves => moves(hub, alloc) && totals(hub) == [4, 4, 3, 2] && is_swedish(hub),
         Row::RefusesAndStamps => is_refused(hub, alloc) && is_stamped(hub, alloc),
-        Row::Closes => closes(hub, alloc) && keeps_closed(hub, alloc),
-        Row::Lists => lists_batches(hub, alloc) && lists_more(hub, alloc),
-        Row::FollowsLinks => is_ring(hub, alloc) && is_linked_once(hub, alloc),
     }
 }
 
@@ -313,99 +284,6 @@ fn refuses_strangers_and_stamps_by_the_place_in_the_record(rt: HostRuntime) {
     assert!(rt; RouteFault::Busy(1).code() == "H5");
 }
 
-/// Whether the link from party 0 to party 1 gives its first frame again.
-fn is_repeated(hub: &Hub) -> bool {
-    is_given(hub.repeat(0, 1, 1), 1, 1)
-}
-
-/// Whether the link from party 0 to party 1 is closed behind a master that went over it.
-fn closes(hub: &mut Hub, alloc: Global) -> bool {
-    is_routed(hub, alloc, 0, FINNISH, 1, &[1]) && is_carried(hub, 1, 1) && hub.close(0, 1) == Ok(())
-}
-
-/// How many items were relayed from party 0 to party 1, and whether that link and the one back are open.
-fn ways(hub: &Hub) -> Option<(u32, bool, bool)> {
-    if hub.parties().len() != 3 {
-        return None;
-    }
-    Some((hub.relayed(0, 1), hub.is_open(0, 1), hub.is_open(1, 0)))
-}
-
-/// Whether nothing new then goes over it, and what went over it can be repeated.
-fn keeps_closed(hub: &mut Hub, alloc: Global) -> bool {
-    is_routed(hub, alloc, 0, FIRST_BATCH, 2, &[])
-        && relay_fault(hub, 0, 1) == Some(HubFault::Nothing)
-        && hub.close(0, 1) == Err(HubFault::AlreadyClosed)
-        && repeat_fault(hub, 0, 1, 2) == Some(HubFault::NotSent)
-        && ways(hub) == Some((1, false, true))
-        && is_repeated(hub)
-}
-
-#[test]
-fn closes_a_link_for_what_is_new(rt: HostRuntime) {
-    assert!(rt; shows(rt.alloc(), Row::Closes));
-}
-
-/// Whether the product of a catalogue is for this market alone, and without a market whether there is none.
-fn is_for(catalogue: &Catalogue, market: &str) -> bool {
-    let Some(product) = catalogue.product.get() else {
-        return market.is_empty();
-    };
-    let markets = product.markets.as_slice();
-    markets.len() == 1 && markets[0].as_str() == market
-}
-
-/// Whether batches with their expiry are these.
-fn are_listed(listed: &[(Batch, Expiry)], named: &[(&str, &str)]) -> bool {
-    if listed.len() != named.len() {
-        return false;
-    }
-    for i in 0..listed.len() {
-        if listed[i].0.as_str() != named[i].0 || listed[i].1.text().as_str() != named[i].1 {
-            return false;
-        }
-    }
-    true
-}
-
-/// Whether the catalogue of the product has this market, and these batches and dates of expiry.
-fn has_catalogue(hub: &Hub, market: &str, named: &[(&str, &str)]) -> bool {
-    let Some(gtin) = product_code() else {
-        return false;
-    };
-    match hub.catalogue(&gtin) {
-        Some(catalogue) => {
-            is_for(catalogue, market) && are_listed(catalogue.batches.as_slice(), named)
-        }
-        None => false,
-    }
-}
-
-/// Whether batches are listed before there is a master.
-fn lists_batches(hub: &mut Hub, alloc: Global) -> bool {
-    is_routed(hub, alloc, 0, FIRST_BATCH, 1, &[])
-        && is_routed(hub, alloc, 0, FIRST_BATCH, 2, &[])
-        && is_routed(hub, alloc, 0, SECOND_BATCH, 3, &[])
-        && has_catalogue(hub, "", &[("B1", "280229"), ("B2", "280229")])
-}
-
-/// Whether the catalogue then has the last of two masters, and one more expiry of the first batch.
-fn lists_more(hub: &mut Hub, alloc: Global) -> bool {
-    is_routed(hub, alloc, 0, FINNISH, 4, &[1])
-        && is_routed(hub, alloc, 0, SWEDISH, 5, &[1, 2])
-        && is_routed(hub, alloc, 0, LATER_EXPIRY, 6, &[2])
-        && has_catalogue(
-            hub,
-            "SE",
-            &[("B1", "280229"), ("B2", "280229"), ("B1", "290131")],
-        )
-}
-
-#[test]
-fn lists_each_batch_and_expiry_once(rt: HostRuntime) {
-    assert!(rt; shows(rt.alloc(), Row::Lists));
-}
-
 /// A catalogue of one batch, and no product.
 fn catalogue_of(alloc: Global, number: &str) -> Option<Catalogue> {
     let batch = Batch::read(number).ok()?;
@@ -458,79 +336,4 @@ fn lends_the_product_of_a_master(rt: HostRuntime) {
     assert!(rt; are_same(rt.alloc(), FINNISH, FINNISH));
     assert!(rt; !are_same(rt.alloc(), FINNISH, SWEDISH));
     assert!(rt; !are_same(rt.alloc(), FINNISH, FIRST_BATCH));
-}
-
-/// A batch of the product.
-fn batch(number: &str) -> Option<BatchKey> {
-    let gtin = product_code()?;
-    let batch = Batch::read(number).ok()?;
-    Some(BatchKey { gtin, batch })
-}
-
-/// Whether batches are these, by their product codes and numbers.
-fn are_batches(list: &[BatchKey], named: &[(&str, &str)]) -> bool {
-    if list.len() != named.len() {
-        return false;
-    }
-    for i in 0..list.len() {
-        if list[i].gtin.as_str() != named[i].0 || list[i].batch.as_str() != named[i].1 {
-            return false;
-        }
-    }
-    true
-}
-
-/// Whether these batches, and they alone, are linked to a batch of the product.
-fn has_linked(hub: &Hub, number: &str, named: &[(&str, &str)]) -> bool {
-    let Some(batch) = batch(number) else {
-        return false;
-    };
-    match hub.linked(&batch) {
-        Ok(list) => are_batches(list.as_slice(), named),
-        Err(_) => false,
-    }
-}
-
-/// Whether these batches, and they alone, descend from a batch of the product.
-fn has_descendants(hub: &Hub, number: &str, named: &[(&str, &str)]) -> bool {
-    let Some(batch) = batch(number) else {
-        return false;
-    };
-    match hub.descendants(&batch) {
-        Ok(list) => are_batches(list.as_slice(), named),
-        Err(_) => false,
-    }
-}
-
-/// The first batch after, in a ring of links.
-const C1: (&str, &str) = ("04012345678901", "C1");
-
-/// The second batch after.
-const C2: (&str, &str) = ("04012345678901", "C2");
-
-/// The batch in which the ring begins and ends.
-const B1: (&str, &str) = ("09506000134352", "B1");
-
-/// Whether a ring of links is followed, and ends at the batch where it began.
-fn is_ring(hub: &mut Hub, alloc: Global) -> bool {
-    is_routed(hub, alloc, 0, B1_TO_C1, 1, &[])
-        && is_routed(hub, alloc, 0, C1_TO_C2, 2, &[])
-        && is_routed(hub, alloc, 0, C2_TO_B1, 3, &[])
-        && has_linked(hub, "B1", &[C1])
-        && has_descendants(hub, "B1", &[C1, C2, B1])
-        && has_descendants(hub, "B9", &[])
-}
-
-/// Whether another batch is then linked to itself alone, and the first to the second once though it was twice.
-fn is_linked_once(hub: &mut Hub, alloc: Global) -> bool {
-    is_routed(hub, alloc, 0, B2_TO_B2, 4, &[])
-        && is_routed(hub, alloc, 0, B1_TO_C1, 5, &[])
-        && has_linked(hub, "B2", &[("09506000134352", "B2")])
-        && has_descendants(hub, "B2", &[("09506000134352", "B2")])
-        && has_linked(hub, "B1", &[C1])
-}
-
-#[test]
-fn follows_links_round_a_ring_and_lists_each_once(rt: HostRuntime) {
-    assert!(rt; shows(rt.alloc(), Row::FollowsLinks));
 }

@@ -177,49 +177,46 @@ fn write_run_in(
     shown: Shown<'_>,
 ) -> Option<()> {
     let replies = world.run(steps).ok()?;
-    write_shown(page, world, replies.as_slice(), shown)
+    write_shown(page, world, replies.as_slice(), shown);
+    Some(())
 }
 
 /// Writes what is to be shown of a run, by its replies and the system behind it.
-fn write_shown(
-    page: &mut Page,
-    world: &mut World,
-    replies: &[Reply],
-    shown: Shown<'_>,
-) -> Option<()> {
+fn write_shown(page: &mut Page, world: &mut World, replies: &[Reply], shown: Shown<'_>) {
     match shown {
         Shown::Replies => write_replies(page, replies),
         Shown::State(named) => {
-            write_replies(page, replies)?;
-            write_state(page, world, named)
+            write_replies(page, replies);
+            write_state(page, world, named);
         }
         Shown::Last(named) => {
-            write_reply(page, replies.last()?)?;
-            write_state(page, world, named)
+            write_replies(page, &replies[replies.len().saturating_sub(1)..]);
+            write_state(page, world, named);
         }
     }
 }
 
 /// Writes replies, one a line.
-fn write_replies(page: &mut Page, replies: &[Reply]) -> Option<()> {
+fn write_replies(page: &mut Page, replies: &[Reply]) {
     for reply in replies {
-        write_reply(page, reply)?;
+        write_reply(page, reply);
     }
-    Some(())
 }
 
 /// Writes a reply.
-fn write_reply(page: &mut Page, reply: &Reply) -> Option<()> {
-    let text = reply_text(page.alloc(), reply).ok()?;
-    page.line(text.as_str())
+fn write_reply(page: &mut Page, reply: &Reply) {
+    match reply_text(page.alloc(), reply) {
+        Ok(text) => page.line(text.as_str()),
+        Err(_) => page.refuse(),
+    }
 }
 
 /// Writes what a system shows of what was named. What lies on its wires shows only as it is lost, so that comes last.
-fn write_state(page: &mut Page, world: &mut World, named: &Named) -> Option<()> {
-    write_copies(page, world, named)?;
-    write_lists(page, world)?;
-    write_catalogues(page, world.hub(), named)?;
-    write_wires(page, world)
+fn write_state(page: &mut Page, world: &mut World, named: &Named) {
+    write_copies(page, world, named);
+    write_lists(page, world);
+    write_catalogues(page, world.hub(), named);
+    write_wires(page, world);
 }
 
 /// The parties and limits of the system that a line opens, where it opens one.
@@ -270,7 +267,8 @@ fn answer_by<'a>(
 fn write_descendants(linked: Linked, page: &mut Page) -> Option<()> {
     let count = count_descendants(page.alloc(), linked)?;
     let text = format!(in page.alloc(); "{count}").ok()?;
-    page.line(text.as_str())
+    page.line(text.as_str());
+    Some(())
 }
 
 /// What the words behind the program's name ask for; none where they are mistaken.
@@ -308,7 +306,7 @@ fn main(rt: HostRuntime) -> ExitCode {
             answer(rt.alloc(), input.as_slice(), wanted, &mut page)
         }
     };
-    if written.is_none() {
+    if written.is_none() || !page.is_whole() {
         return ExitCode::from(1);
     }
     let mut writer = rt.stdout();

@@ -6,12 +6,17 @@ why no other mistake may stand in its check: it changes more than that function.
 
 A function is proved by its own body and by what the others promise. So mistakes in the bodies of different functions do not meet, and one
 check tries them all. Each has to be refused at a goal of its own function: a clause of its contract, an invariant, or what a call asks for.
-That it calls a function which is refused does not count, nor does a name that is gone from its proof. A mistake that has no verdict in a
-check with others is tried once more, alone.
+That it calls a function which is refused does not count, nor does a name that is gone from its proof. A mistake that is not refused in
+such a check is tried once more, alone, in the whole crate.
+
+A check proves again what the functions call that it is asked for. So in it most other functions have a loop for a body, and a hole for a
+proof: their contracts stay, and that is all that a caller's proof sees of them. Nothing that rests on a hole is proved, so without a mistake
+a function would fall at no goal of its own, and would count as not refused.
 
 All is done in a copy of the repository. There `rt ci` proves the crates first, or takes them over where it proved the same files before. The
 checks are made over these libraries, by the same prover, and over what the checks of the same crate before them have proved."""
 
+import json
 import os
 import re
 import shutil
@@ -28,6 +33,14 @@ from program import TOP
 SOURCES = "src", "specs", "proofs"
 GONE = r"has no field|is not in scope|has no `|was not admitted"  # of a name in a proof
 SHOWN = 20  # lines of a check in which a mistake was not refused
+HEAD = re.compile(r"(?m)^(?P<indent> *)(?:pub(?:\(crate\))? )?fn (?P<name>\w+)(?:<'\w+(?:, '\w+)*>)?\(")
+OWNER = re.compile(r"impl(?:<'\w+>)? (\w+)(?:<'\w+>)? {")
+BY_HAND = "Answers.antt", "Invariants.antt", "Proof.antt"  # what the proof of a function is written in
+HOLE = """use Rattle.{crate}.proofs.{path}.Statement.{{statement}}
+
+pub {name}_spec : {{M : Type 1}} → statement M
+{name}_spec = ?
+"""
 
 
 @dataclass
@@ -85,6 +98,54 @@ def in_checks(mistakes):
     return checks
 
 
+def heads_of(file, text):
+    """Where functions begin in a file, by the last two words of their names: the type or the module, and the function. Those of traits and
+    of type parameters are left out."""
+    for head in HEAD.finditer(text):
+        owner = file.stem
+        if head["indent"]:
+            block = re.findall(r"(?m)^(?:impl|.*\btrait)\b.*$", text[: head.start()])[-1:]
+            owner = next((it[1] for it in map(OWNER.fullmatch, block) if it), None)
+        if owner:
+            yield f"{owner}::{head['name']}", head
+
+
+def without_body(text, head):
+    """The text of a file in which a loop is the body of the function that begins there, in the form that `rt fmt` gives it. None where that
+    function has no body, or belongs to a cycle of calls."""
+    indent, behind = head["indent"], text[head.end() :]
+    end = re.search(rf"(?m)^{indent}}}$", behind)
+    whole = behind[: end.start()] if end else ""
+    begin = re.search(rf"(?m)^{indent}{{\n", whole) or re.search(r" {\n", whole)
+    if begin is None or HEAD.search(whole) or "#[cycle(" in text[: head.start()].rsplit("\n\n", 1)[-1]:
+        return None
+    return text[: head.end()] + whole[: begin.end()] + f"{indent}    loop {{}}\n" + behind[end.start() :]
+
+
+def leave_out_others(folder, crate, functions, kept):
+    """Takes the bodies and proofs of these functions, but for those that are kept, out of a copy of a crate, where a look at the text tells
+    which they are."""
+    for file in (folder / "src").rglob("*.rt"):
+        text = file.read_text()
+        for function in set(functions) - set(kept):
+            last = "::".join(["lib", *function.split("::")][-2:])
+            heads = [head for name, head in heads_of(file, text) if name == last]
+            changed = without_body(text, heads[0]) if len(heads) == 1 else None
+            if changed is not None:
+                text = changed
+                put_hole(folder, crate, function)
+        file.write_text(text)
+
+
+def put_hole(folder, crate, function):
+    """Puts a hole for the proof of a function."""
+    proof = folder / "proofs" / function.replace("::", "/")
+    proof.mkdir(parents=True, exist_ok=True)
+    for file in BY_HAND:
+        (proof / file).unlink(missing_ok=True)
+    (proof / "Proof.antt").write_text(HOLE.format(crate=crate, path=function.replace("::", "."), name=proof.name))
+
+
 def taken(command, folder):
     """How a command ended in a folder, and what it said."""
     how = {"stdin": subprocess.DEVNULL, "stdout": subprocess.PIPE, "stderr": subprocess.STDOUT, "text": True, "errors": "replace"}
@@ -122,8 +183,15 @@ class Crates:
         if status != 0:
             sys.exit(f"rt ci, in a copy: status {status}\n{said[-4000:]}")
 
-    def check(self, name, mistakes, kept):
-        """Checks the functions of these mistakes, which stand in a copy of the crate, over what is kept: what the check said."""
+    def functions(self, name):
+        """The names of the functions of a crate, as a check prints them."""
+        code = self.folder / "crates" / name / "out/rlib" / f"{name}.rlib" / "toolchain/mir.json"
+        names = [it[0] for it in json.loads(code.read_text())]
+        return [it.removeprefix(f"{name}::") for it in names if it.startswith(f"{name}::") and "+" not in it]
+
+    def check(self, name, mistakes, kept, is_whole):
+        """Checks the functions of these mistakes, which stand in a copy of the crate, over what is kept: what the check said. Unless the crate
+        is to be whole, most of its other functions are left out."""
         rlibs = self.kit / "rlibs"
         folders = {it: self.folder / "crates" / it / "out/rlib" for it in self.below(name)}
         words = [f"--extern={it}={folders.get(it, rlibs)}/{it}.rlib" for it in ["std", *self.uses[name]]]
@@ -137,6 +205,8 @@ class Crates:
                     mistake.put(Path(room))
             except ValueError as fault:
                 return str(fault)
+            if not is_whole:
+                leave_out_others(Path(room), name, self.functions(name), [it for mistake in mistakes for it in mistake.functions])
             return taken([self.kit / "bin/rattle", "check", f"--crate-name={name}", "src/lib.rt", f"--incremental={kept}", *words], room)[1]
 
 
@@ -153,9 +223,9 @@ def goal_of(name, function, said, is_alone):
     return next(iter([*searched, *by_hand]), None)
 
 
-def try_together(crates, name, mistakes, kept):
+def try_together(crates, name, mistakes, kept, is_whole=False):
     """Tries mistakes in one check: for each the goals at which it was refused, or none; and what the check said."""
-    said = crates.check(name, mistakes, kept)
+    said = crates.check(name, mistakes, kept, is_whole)
     goals = [[goal_of(name, it, said, len(mistakes) == 1) for it in mistake.functions] for mistake in mistakes]
     return [None if None in it else it for it in goals], said
 
@@ -167,8 +237,8 @@ def try_crate(crates, name, mistakes):
         for together in in_checks(mistakes):
             goals, said = try_together(crates, name, together, kept)
             for mistake, goal in zip(together, goals):
-                if goal is None and len(together) > 1:
-                    [goal], said = try_together(crates, name, [mistake], kept)
+                if goal is None:
+                    [goal], said = try_together(crates, name, [mistake], kept, is_whole=True)
                 functions = " and ".join(mistake.functions)
                 if goal is None:
                     told.append("\n".join([f"{name}/{mistake.name}: NOT REFUSED at a goal of {functions}", *said.splitlines()[:SHOWN]]))

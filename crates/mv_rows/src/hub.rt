@@ -1,10 +1,11 @@
-//! The router: its record and stamps, and the refusals that the program cannot show. What it knows of products and batches, and which links
-//! are closed, is compared with the plain machine at the end of each random run.
+//! The router: its record and stamps, and the refusals that the program cannot show. Whom a message reaches is shown by the examples of
+//! `mvhub steps`. What it knows of products and batches, and which links are closed, is compared with the plain machine at the end of each
+//! random run.
 
 use mv_hub::{Catalogue, Entry, Hub, HubFault, MasterProduct, Pairs, Parties, RouteFault};
 use mv_link::{Frame, Item};
 use mv_message::{Message, Shared};
-use mv_pack::{Batch, Expiry, Gtin, Market};
+use mv_pack::{Batch, Expiry, Market};
 use std::alloc::Global;
 
 /// The master of a product for Finland.
@@ -15,24 +16,12 @@ const FINNISH: &str =
 const SWEDISH: &str =
     "{\"common\":\"paracetamol\",\"form\":\"tablet\",\"gtin\":\"09506000134352\",\"markets\":[\"SE\"],\"msg\":\"master\",\"name\":\"Examplin\",\"pack_size\":\"30\",\"pack_type\":\"blister\",\"scheme\":\"GTIN\",\"strength\":\"500 mg\"}";
 
-/// The master of the same product for both.
-const FOR_BOTH: &str =
-    "{\"common\":\"paracetamol\",\"form\":\"tablet\",\"gtin\":\"09506000134352\",\"markets\":[\"FI\",\"SE\"],\"msg\":\"master\",\"name\":\"Examplin\",\"pack_size\":\"30\",\"pack_type\":\"blister\",\"scheme\":\"GTIN\",\"strength\":\"500 mg\"}";
-
 /// An upload of a pack of its batch B1.
 const FIRST_BATCH: &str =
     "{\"batch\":\"B1\",\"expiry\":\"280200\",\"gtin\":\"09506000134352\",\"msg\":\"upload\",\"serials\":[\"S1\"]}";
 
 /// A question about a pack of the product.
 const QUERY: &str = "{\"gtin\":\"09506000134352\",\"msg\":\"query\",\"serial\":\"S1\"}";
-
-/// An answer to party 1.
-const ANSWER: &str =
-    "{\"asker\":1,\"found\":null,\"gtin\":\"09506000134352\",\"msg\":\"answer\",\"q\":1,\"serial\":\"S1\"}";
-
-/// An answer to a party that is none.
-const LOST_ANSWER: &str =
-    "{\"asker\":7,\"found\":null,\"gtin\":\"09506000134352\",\"msg\":\"answer\",\"q\":1,\"serial\":\"S1\"}";
 
 /// The list of one market.
 fn served(alloc: Global, market: Market) -> Option<Vec<Market>> {
@@ -60,36 +49,6 @@ fn opened(alloc: Global) -> Option<Hub> {
     hub_of(alloc, finland, sweden)
 }
 
-/// What is shown of a hub where nothing has happened.
-#[derive(Clone, Copy)]
-enum Row {
-    Asks,
-    Moves,
-    RefusesAndStamps,
-}
-
-/// Whether a hub where nothing has happened shows a row. No other function has a hub to drop, since that is dear to prove.
-fn shows(alloc: Global, row: Row) -> bool {
-    match opened(alloc) {
-        Some(mut hub) => shows_in(&mut hub, alloc, row),
-        None => false,
-    }
-}
-
-/// Whether this hub does.
-fn shows_in(hub: &mut Hub, alloc: Global, row: Row) -> bool {
-    match row {
-        Row::Asks => asks(hub, alloc),
-        Row::Moves => moves(hub, alloc) && totals(hub) == [4, 4, 3, 2] && is_swedish(hub),
-        Row::RefusesAndStamps => is_refused(hub, alloc) && is_stamped(hub, alloc),
-    }
-}
-
-/// The product.
-fn product_code() -> Option<Gtin> {
-    Gtin::read("09506000134352").ok()
-}
-
 /// The message that a text is.
 fn message_of(alloc: Global, text: &str) -> Option<Shared<Message>> {
     Shared::new(alloc, mv_json::read(alloc, text.as_bytes()).ok()?).ok()
@@ -112,37 +71,6 @@ fn is_routed(hub: &mut Hub, alloc: Global, from: u32, text: &str, k: u32, to: &[
         Some(message) => reaches(hub, from, &message, k, to),
         None => false,
     }
-}
-
-/// Whether the product moves from Finland to Sweden while packs of it are uploaded.
-fn moves(hub: &mut Hub, alloc: Global) -> bool {
-    is_routed(hub, alloc, 0, FINNISH, 1, &[1])
-        && is_routed(hub, alloc, 0, FIRST_BATCH, 2, &[1])
-        && is_routed(hub, alloc, 0, SWEDISH, 3, &[1, 2])
-        && is_routed(hub, alloc, 0, FIRST_BATCH, 4, &[2])
-}
-
-/// How many messages of party 0 were routed, and how many items were put on its link to each party.
-fn totals(hub: &Hub) -> [u32; 4] {
-    if hub.parties().len() != 3 {
-        return [0; 4];
-    }
-    [
-        hub.routed_count(0),
-        hub.total(0, 0),
-        hub.total(0, 1),
-        hub.total(0, 2),
-    ]
-}
-
-/// Whether the product is for Sweden alone, which party 2 serves.
-fn is_swedish(hub: &Hub) -> bool {
-    let (Some(gtin), Ok(sweden)) = (product_code(), Market::read("SE")) else {
-        return false;
-    };
-    let markets = [sweden];
-    hub.markets(&gtin) == Some(markets.as_slice())
-        && hub.parties().serving(&markets).as_slice() == [2].as_slice()
 }
 
 /// Whether an item carries the message of this number under this stamp.
@@ -203,43 +131,6 @@ fn is_stamped(hub: &mut Hub, alloc: Global) -> bool {
         && is_carried(hub, 2, 3)
 }
 
-/// Whether a frame has the receipt of a first message, a query that reached party 2.
-fn is_receipt(frame: &Frame) -> bool {
-    match &frame.item {
-        Item::Receipt { k, reach, query } => {
-            *k == 1 && *query && reach.to_reach().as_slice() == [2].as_slice()
-        }
-        Item::Carried { .. } => false,
-    }
-}
-
-/// Whether the next frame of the link of party 1 to itself has.
-fn has_receipt(hub: &mut Hub) -> bool {
-    match hub.relay(1, 1) {
-        Ok(frame) => is_receipt(&frame),
-        Err(_) => false,
-    }
-}
-
-/// Whether a query goes to the others that serve its product, an answer to who asked, and one to a party that is none to nobody.
-fn asks(hub: &mut Hub, alloc: Global) -> bool {
-    is_routed(hub, alloc, 0, FOR_BOTH, 1, &[1, 2])
-        && is_routed(hub, alloc, 1, QUERY, 1, &[2])
-        && has_receipt(hub)
-        && is_routed(hub, alloc, 2, ANSWER, 1, &[1])
-        && is_routed(hub, alloc, 2, LOST_ANSWER, 2, &[])
-}
-
-#[test]
-fn asks_the_others_and_answers_who_asked(rt: HostRuntime) {
-    assert!(rt; shows(rt.alloc(), Row::Asks));
-}
-
-#[test]
-fn moves_a_product_to_another_market(rt: HostRuntime) {
-    assert!(rt; shows(rt.alloc(), Row::Moves));
-}
-
 /// Why a message is not routed.
 fn fault_of(hub: &mut Hub, from: u32, message: &Shared<Message>) -> Option<RouteFault> {
     if hub.record().len() > 1_000 {
@@ -277,9 +168,17 @@ fn is_refused(hub: &mut Hub, alloc: Global) -> bool {
         && hub.close(3, 0) == Err(HubFault::StrangerParty)
 }
 
+/// Whether a hub where nothing has happened refuses and stamps so. No other function has a hub to drop, since that is dear to prove.
+fn refuses_and_stamps(alloc: Global) -> bool {
+    match opened(alloc) {
+        Some(mut hub) => is_refused(&mut hub, alloc) && is_stamped(&mut hub, alloc),
+        None => false,
+    }
+}
+
 #[test]
 fn refuses_strangers_and_stamps_by_the_place_in_the_record(rt: HostRuntime) {
-    assert!(rt; shows(rt.alloc(), Row::RefusesAndStamps));
+    assert!(rt; refuses_and_stamps(rt.alloc()));
     assert!(rt; HubFault::StrangerParty.code() == "H4");
     assert!(rt; RouteFault::Busy(1).code() == "H5");
 }

@@ -8,12 +8,6 @@ use mv_pack::{Batch, BatchKey, Expiry, Gtin, Market, Moment, PackKey, Serial};
 use mv_tokens::Reader;
 use std::alloc::Global;
 
-const MASTER: &str =
-    "{\"common\":\"paracetamol\",\"form\":\"tablet\",\"gtin\":\"09506000134352\",\"markets\":[\"FI\"],\"msg\":\"master\",\"name\":\"Examplin\",\"pack_size\":\"30\",\"pack_type\":\"blister\",\"scheme\":\"GTIN\",\"strength\":\"500 mg\"}";
-
-const UPLOAD: &str =
-    "{\"batch\":\"B1\",\"expiry\":\"280200\",\"gtin\":\"9506000134352\",\"msg\":\"upload\",\"national\":\"123456\",\"serials\":[\"S1\",\"S2\"],\"v\":2}";
-
 const STATUS: &str =
     "{\"at\":1800000000,\"gtin\":\"09506000134352\",\"msg\":\"status\",\"serial\":\"S1\",\"to\":\"free_sample\",\"user\":\"u1\"}";
 
@@ -21,101 +15,66 @@ const STATUS: &str =
 const PLAIN_UPLOAD: &str =
     "{\"batch\":\"B1\",\"expiry\":\"280200\",\"gtin\":\"9506000134352\",\"msg\":\"upload\",\"serials\":[\"S1\",\"S2\"]}";
 
-/// Messages with their keys in any order, with blanks and escapes, and the same in byte order of the keys.
-const IN_ANY_ORDER: [(&str, &str); 3] = [
-    (
-        "{ \"msg\": \"status\", \"gtin\": \"09506000134352\", \"serial\": \"S1\", \"user\": \"u1\", \"to\": \"free_sample\", \"at\": 1800000000 }",
-        STATUS,
-    ),
-    (
-        "{\"v\":2,\"m\\u0073g\":\"upload\",\"serials\":[\"S1\",\"\\u00532\"],\"national\":\"123456\",\"gtin\":\"9506000134352\",\"batch\":\"B1\",\"expiry\":\"280200\"}",
-        UPLOAD,
-    ),
-    (
-        "{\"msg\":\"answer\",\"found\":{\"withdrawn\":true,\"standing\":\"supplied\",\"recalled\":true,\"national\":null,\"expiry\":\"280229\",\"batch\":\"B1\"},\"v\":2,\"asker\":2,\"q\":1,\"gtin\":\"09506000134352\",\"serial\":\"S1\"}",
-        ANSWER,
-    ),
-];
+/// Messages with their keys in any order, with blanks and escapes, and below each the same in byte order of the keys.
+const IN_ANY_ORDER: &str =
+    r#"{ "msg": "status", "gtin": "09506000134352", "serial": "S1", "user": "u1", "to": "free_sample", "at": 1800000000 }
+{"at":1800000000,"gtin":"09506000134352","msg":"status","serial":"S1","to":"free_sample","user":"u1"}
+{"v":2,"m\u0073g":"upload","serials":["S1","\u00532"],"national":"123456","gtin":"9506000134352","batch":"B1","expiry":"280200"}
+{"batch":"B1","expiry":"280200","gtin":"9506000134352","msg":"upload","national":"123456","serials":["S1","S2"],"v":2}
+{"msg":"answer","found":{"withdrawn":true,"standing":"supplied","recalled":true,"national":null,"expiry":"280229","batch":"B1"},"v":2,"asker":2,"q":1,"gtin":"09506000134352","serial":"S1"}
+{"asker":2,"found":{"batch":"B1","expiry":"280229","national":null,"recalled":true,"standing":"supplied","withdrawn":true},"gtin":"09506000134352","msg":"answer","q":1,"serial":"S1","v":2}"#;
 
 /// What is no message, or has a key twice: one too few and one too many, a list with none, one that goes on behind its last member, a
 /// moment with an exponent and one that is past, what came with the second version in the first, and a key of another form.
-const NOT_TAKEN: [&str; 10] = [
-    "{\"at\":1800000000,\"at\":1800000000,\"gtin\":\"09506000134352\",\"msg\":\"status\",\"serial\":\"S1\",\"to\":\"free_sample\",\"user\":\"u1\"}",
-    "{\"at\":1800000000,\"gtin\":\"09506000134352\",\"msg\":\"status\",\"serial\":\"S1\",\"to\":\"free_sample\"}",
-    "{\"at\":1800000000,\"gtin\":\"09506000134352\",\"msg\":\"status\",\"serial\":\"S1\",\"to\":\"free_sample\",\"user\":\"u1\",\"v\":1}",
-    "{\"batch\":\"B1\",\"expiry\":\"280200\",\"gtin\":\"9506000134352\",\"msg\":\"upload\",\"serials\":[]}",
-    "{\"batch\":\"B1\",\"expiry\":\"280200\",\"gtin\":\"9506000134352\",\"msg\":\"upload\",\"serials\":[\"S1\",]}",
-    "{\"at\":18e8,\"gtin\":\"09506000134352\",\"msg\":\"status\",\"serial\":\"S1\",\"to\":\"free_sample\",\"user\":\"u1\"}",
-    "{\"at\":4102444800,\"gtin\":\"09506000134352\",\"msg\":\"status\",\"serial\":\"S1\",\"to\":\"free_sample\",\"user\":\"u1\"}",
-    "{\"batch\":\"B1\",\"expiry\":\"280200\",\"gtin\":\"9506000134352\",\"msg\":\"upload\",\"national\":null,\"serials\":[\"S1\"]}",
-    "{\"at\":1800000000,\"gtin\":\"9506000134352\",\"msg\":\"withdraw\"}",
-    "{\"gtin\":\"9506000134352\",\"msg\":\"query\",\"serial\":\"S1\",\"user\":\"u1\"}",
-];
+const NOT_TAKEN: &str =
+    r#"{"at":1800000000,"at":1800000000,"gtin":"09506000134352","msg":"status","serial":"S1","to":"free_sample","user":"u1"}
+{"at":1800000000,"gtin":"09506000134352","msg":"status","serial":"S1","to":"free_sample"}
+{"at":1800000000,"gtin":"09506000134352","msg":"status","serial":"S1","to":"free_sample","user":"u1","v":1}
+{"batch":"B1","expiry":"280200","gtin":"9506000134352","msg":"upload","serials":[]}
+{"batch":"B1","expiry":"280200","gtin":"9506000134352","msg":"upload","serials":["S1",]}
+{"at":18e8,"gtin":"09506000134352","msg":"status","serial":"S1","to":"free_sample","user":"u1"}
+{"at":4102444800,"gtin":"09506000134352","msg":"status","serial":"S1","to":"free_sample","user":"u1"}
+{"batch":"B1","expiry":"280200","gtin":"9506000134352","msg":"upload","national":null,"serials":["S1"]}
+{"at":1800000000,"gtin":"9506000134352","msg":"withdraw"}
+{"gtin":"9506000134352","msg":"query","serial":"S1","user":"u1"}"#;
 
 const RECALL: &str =
     "{\"at\":1800000010,\"batch\":\"B1\",\"gtin\":\"09506000134352\",\"msg\":\"recall\"}";
 
-const REPACK: &str =
-    "{\"after_batch\":\"C1\",\"after_gtin\":\"04012345678901\",\"after_serials\":[\"X1\",\"X2\"],\"at\":0,\"before_batch\":\"B1\",\"before_gtin\":\"09506000134352\",\"before_serials\":[\"S1\"],\"msg\":\"repack\"}";
-
-const WITHDRAW: &str =
-    "{\"at\":1800000000,\"gtin\":\"9506000134352\",\"msg\":\"withdraw\",\"v\":2}";
-
 const QUERY: &str = "{\"gtin\":\"9506000134352\",\"msg\":\"query\",\"serial\":\"S1\"}";
 
-const ANSWER: &str =
-    "{\"asker\":2,\"found\":{\"batch\":\"B1\",\"expiry\":\"280229\",\"national\":null,\"recalled\":true,\"standing\":\"supplied\",\"withdrawn\":true},\"gtin\":\"09506000134352\",\"msg\":\"answer\",\"q\":1,\"serial\":\"S1\",\"v\":2}";
-
 /// An example of each message, as the document of the formats has them; each is its own canonical text.
-const CANONICAL: [&str; 11] = [
-    "{\"common\":\"paracetamol\",\"form\":\"tablet\",\"gtin\":\"09506000134352\",\"markets\":[\"FI\"],\"msg\":\"master\",\"name\":\"Examplin\",\"pack_size\":\"30\",\"pack_type\":\"blister\",\"scheme\":\"GTIN\",\"strength\":\"500 mg\"}",
-    "{\"batch\":\"B1\",\"expiry\":\"280229\",\"gtin\":\"09506000134352\",\"msg\":\"upload\",\"serials\":[\"S1\"]}",
-    "{\"batch\":\"B1\",\"expiry\":\"280229\",\"gtin\":\"09506000134352\",\"msg\":\"upload\",\"national\":\"123456\",\"serials\":[\"S1\"],\"v\":2}",
-    "{\"at\":1800000000,\"gtin\":\"09506000134352\",\"msg\":\"status\",\"serial\":\"S1\",\"to\":\"supplied\",\"user\":\"u1\"}",
-    "{\"at\":1800000010,\"batch\":\"B1\",\"gtin\":\"09506000134352\",\"msg\":\"recall\"}",
-    "{\"after_batch\":\"C1\",\"after_gtin\":\"04012345678901\",\"after_serials\":[\"X1\"],\"at\":1800000000,\"before_batch\":\"B1\",\"before_gtin\":\"09506000134352\",\"before_serials\":[\"S1\"],\"msg\":\"repack\"}",
-    "{\"gtin\":\"09506000134352\",\"msg\":\"query\",\"serial\":\"S1\"}",
-    "{\"asker\":2,\"found\":null,\"gtin\":\"09506000134352\",\"msg\":\"answer\",\"q\":1,\"serial\":\"S1\"}",
-    "{\"asker\":2,\"found\":{\"batch\":\"B1\",\"expiry\":\"280229\",\"recalled\":false,\"standing\":\"active\"},\"gtin\":\"09506000134352\",\"msg\":\"answer\",\"q\":1,\"serial\":\"S1\"}",
-    "{\"asker\":2,\"found\":{\"batch\":\"B1\",\"expiry\":\"280229\",\"national\":null,\"recalled\":false,\"standing\":\"active\",\"withdrawn\":true},\"gtin\":\"09506000134352\",\"msg\":\"answer\",\"q\":1,\"serial\":\"S1\",\"v\":2}",
-    "{\"at\":1800000000,\"gtin\":\"09506000134352\",\"msg\":\"withdraw\",\"v\":2}",
-];
+const CANONICAL: &str =
+    r#"{"common":"paracetamol","form":"tablet","gtin":"09506000134352","markets":["FI"],"msg":"master","name":"Examplin","pack_size":"30","pack_type":"blister","scheme":"GTIN","strength":"500 mg"}
+{"batch":"B1","expiry":"280229","gtin":"09506000134352","msg":"upload","serials":["S1"]}
+{"batch":"B1","expiry":"280229","gtin":"09506000134352","msg":"upload","national":"123456","serials":["S1"],"v":2}
+{"at":1800000000,"gtin":"09506000134352","msg":"status","serial":"S1","to":"supplied","user":"u1"}
+{"at":1800000010,"batch":"B1","gtin":"09506000134352","msg":"recall"}
+{"after_batch":"C1","after_gtin":"04012345678901","after_serials":["X1"],"at":1800000000,"before_batch":"B1","before_gtin":"09506000134352","before_serials":["S1"],"msg":"repack"}
+{"gtin":"09506000134352","msg":"query","serial":"S1"}
+{"asker":2,"found":null,"gtin":"09506000134352","msg":"answer","q":1,"serial":"S1"}
+{"asker":2,"found":{"batch":"B1","expiry":"280229","recalled":false,"standing":"active"},"gtin":"09506000134352","msg":"answer","q":1,"serial":"S1"}
+{"asker":2,"found":{"batch":"B1","expiry":"280229","national":null,"recalled":false,"standing":"active","withdrawn":true},"gtin":"09506000134352","msg":"answer","q":1,"serial":"S1","v":2}
+{"at":1800000000,"gtin":"09506000134352","msg":"withdraw","v":2}"#;
 
-/// Each message above, with another of its kind that differs from it in one member.
-const OTHERS: [(&str, &str); 8] = [
-    (
-        MASTER,
-        "{\"common\":\"paracetamol\",\"form\":\"tablet\",\"gtin\":\"09506000134352\",\"markets\":[\"FI\"],\"msg\":\"master\",\"name\":\"Examplin\",\"pack_size\":\"30\",\"pack_type\":\"blister\",\"scheme\":\"GTIN\",\"strength\":\"250 mg\"}",
-    ),
-    (
-        UPLOAD,
-        "{\"batch\":\"B1\",\"expiry\":\"280200\",\"gtin\":\"9506000134352\",\"msg\":\"upload\",\"national\":\"123456\",\"serials\":[\"S1\",\"S3\"],\"v\":2}",
-    ),
-    (
-        STATUS,
-        "{\"at\":1800000000,\"gtin\":\"09506000134352\",\"msg\":\"status\",\"serial\":\"S1\",\"to\":\"sample\",\"user\":\"u1\"}",
-    ),
-    (
-        RECALL,
-        "{\"at\":1800000010,\"batch\":\"B2\",\"gtin\":\"09506000134352\",\"msg\":\"recall\"}",
-    ),
-    (
-        REPACK,
-        "{\"after_batch\":\"C1\",\"after_gtin\":\"04012345678901\",\"after_serials\":[\"X1\",\"X2\"],\"at\":0,\"before_batch\":\"B1\",\"before_gtin\":\"09506000134352\",\"before_serials\":[\"S2\"],\"msg\":\"repack\"}",
-    ),
-    (
-        WITHDRAW,
-        "{\"at\":1800000001,\"gtin\":\"9506000134352\",\"msg\":\"withdraw\",\"v\":2}",
-    ),
-    (QUERY, OTHER_PACK),
-    (
-        ANSWER,
-        "{\"asker\":2,\"found\":{\"batch\":\"B1\",\"expiry\":\"280229\",\"national\":null,\"recalled\":true,\"standing\":\"supplied\",\"withdrawn\":false},\"gtin\":\"09506000134352\",\"msg\":\"answer\",\"q\":1,\"serial\":\"S1\",\"v\":2}",
-    ),
-];
-
-/// A query for a pack that no other text here asks for.
-const OTHER_PACK: &str = "{\"gtin\":\"09506000134352\",\"msg\":\"query\",\"serial\":\"S9\"}";
+/// Messages of each kind, and below each another of its kind that differs from it in one member.
+const OTHERS: &str =
+    r#"{"common":"paracetamol","form":"tablet","gtin":"09506000134352","markets":["FI"],"msg":"master","name":"Examplin","pack_size":"30","pack_type":"blister","scheme":"GTIN","strength":"500 mg"}
+{"common":"paracetamol","form":"tablet","gtin":"09506000134352","markets":["FI"],"msg":"master","name":"Examplin","pack_size":"30","pack_type":"blister","scheme":"GTIN","strength":"250 mg"}
+{"batch":"B1","expiry":"280200","gtin":"9506000134352","msg":"upload","national":"123456","serials":["S1","S2"],"v":2}
+{"batch":"B1","expiry":"280200","gtin":"9506000134352","msg":"upload","national":"123456","serials":["S1","S3"],"v":2}
+{"at":1800000000,"gtin":"09506000134352","msg":"status","serial":"S1","to":"free_sample","user":"u1"}
+{"at":1800000000,"gtin":"09506000134352","msg":"status","serial":"S1","to":"sample","user":"u1"}
+{"at":1800000010,"batch":"B1","gtin":"09506000134352","msg":"recall"}
+{"at":1800000010,"batch":"B2","gtin":"09506000134352","msg":"recall"}
+{"after_batch":"C1","after_gtin":"04012345678901","after_serials":["X1","X2"],"at":0,"before_batch":"B1","before_gtin":"09506000134352","before_serials":["S1"],"msg":"repack"}
+{"after_batch":"C1","after_gtin":"04012345678901","after_serials":["X1","X2"],"at":0,"before_batch":"B1","before_gtin":"09506000134352","before_serials":["S2"],"msg":"repack"}
+{"at":1800000000,"gtin":"9506000134352","msg":"withdraw","v":2}
+{"at":1800000001,"gtin":"9506000134352","msg":"withdraw","v":2}
+{"gtin":"9506000134352","msg":"query","serial":"S1"}
+{"gtin":"09506000134352","msg":"query","serial":"S9"}
+{"asker":2,"found":{"batch":"B1","expiry":"280229","national":null,"recalled":true,"standing":"supplied","withdrawn":true},"gtin":"09506000134352","msg":"answer","q":1,"serial":"S1","v":2}
+{"asker":2,"found":{"batch":"B1","expiry":"280229","national":null,"recalled":true,"standing":"supplied","withdrawn":false},"gtin":"09506000134352","msg":"answer","q":1,"serial":"S1","v":2}"#;
 
 /// The message that a text is. It is held as one that is shared, which is dropped by one call: a message at hand is dropped member by
 /// member wherever memory is refused, which is dear to prove.
@@ -142,19 +101,6 @@ fn is_read_back(alloc: Global, text: &str) -> Option<bool> {
 fn remade(alloc: Global, message: &Message) -> Option<Message> {
     let value = mv_json::to_value(alloc, message).ok()?;
     mv_json::from_value(alloc, &value).ok()
-}
-
-/// What a buffer holds once the canonical text of a message came behind what it held.
-fn written_behind(alloc: Global, before: &str, text: &str) -> Option<String> {
-    let message = shared(alloc, text)?;
-    let mut out = Vec::from_slice(alloc, before.as_bytes()).ok()?;
-    mv_json::write_text(alloc, message.get(), &mut out).ok()?;
-    String::from_utf8(out).ok()
-}
-
-fn is_written_behind(alloc: Global, before: &str, text: &str) -> Option<bool> {
-    let written = written_behind(alloc, before, text)?;
-    Some(written.as_str().strip_prefix(before) == Some(text))
 }
 
 /// The canonical text of the message that a text is, or the message's first fault.
@@ -216,7 +162,7 @@ fn upload(alloc: Global) -> Option<Shared<Message>> {
 }
 
 /// Whether the messages that are made of their values are those that are taken from the tokens of texts.
-fn are_taken(alloc: Global) -> Option<bool> {
+fn are_made(alloc: Global) -> Option<bool> {
     let is_status = taken(alloc, STATUS)? == status(alloc)?;
     Some(is_status && taken(alloc, PLAIN_UPLOAD)? == upload(alloc)?)
 }
@@ -320,92 +266,89 @@ fn differ(alloc: Global, left: &str, right: &str) -> Option<bool> {
     Some(*shared(alloc, left)?.get() != *shared(alloc, right)?.get())
 }
 
-#[test]
-fn tells_apart_what_differs(rt: HostRuntime) {
-    assert_eq!(rt; are_texts_told_apart(rt.alloc()), Some(true));
-    assert_eq!(rt; are_serials_told_apart(rt.alloc()), Some(true));
-    assert_eq!(rt; are_markets_told_apart(rt.alloc()), Some(true));
-    for text in CANONICAL {
-        assert_eq!(rt;
-            differ(rt.alloc(), text, OTHER_PACK),
-            Some(true),
-            "at {text}"
-        );
+/// Whether each first of two lines is a message that differs from that of the second.
+fn all_differ(alloc: Global, texts: &str) -> bool {
+    let mut lines = texts.lines();
+    while let (Some(text), Some(other)) = (lines.next(), lines.next()) {
+        if differ(alloc, text, other) != Some(true) {
+            return false;
+        }
     }
+    true
 }
 
 #[test]
-fn tells_apart_two_of_a_kind(rt: HostRuntime) {
-    for (text, other) in OTHERS {
-        assert_eq!(rt; differ(rt.alloc(), text, other), Some(true), "at {other}");
-    }
+fn tells_apart_what_differs(rt: HostRuntime) {
+    assert!(rt; are_texts_told_apart(rt.alloc()) == Some(true));
+    assert!(rt; are_serials_told_apart(rt.alloc()) == Some(true));
+    assert!(rt; are_markets_told_apart(rt.alloc()) == Some(true));
+    assert!(rt; all_differ(rt.alloc(), OTHERS));
 }
 
 #[test]
 fn copies_each_message(rt: HostRuntime) {
-    for text in [
-        MASTER, UPLOAD, STATUS, RECALL, REPACK, WITHDRAW, QUERY, ANSWER,
-    ] {
-        assert_eq!(rt; is_copied(rt.alloc(), text), Some(true), "at {text}");
+    for text in OTHERS.lines() {
+        assert!(rt; is_copied(rt.alloc(), text) == Some(true));
     }
 }
 
 #[test]
 fn reads_each_value_back(rt: HostRuntime) {
-    for text in [
-        MASTER, UPLOAD, STATUS, RECALL, REPACK, WITHDRAW, QUERY, ANSWER,
-    ] {
-        assert_eq!(rt; is_read_back(rt.alloc(), text), Some(true), "at {text}");
+    for text in OTHERS.lines() {
+        assert!(rt; is_read_back(rt.alloc(), text) == Some(true));
     }
 }
 
 #[test]
 fn writes_canonical_texts(rt: HostRuntime) {
-    for text in CANONICAL {
-        assert_eq!(rt; is_own_text(rt.alloc(), text), Some(true), "at {text}");
-        assert_eq!(rt;
-            is_written_behind(rt.alloc(), "", text),
-            Some(true),
-            "at {text}"
-        );
-        assert_eq!(rt;
-            is_written_behind(rt.alloc(), "[1,\n", text),
-            Some(true),
-            "at {text}"
-        );
+    for text in CANONICAL.lines() {
+        assert!(rt; is_own_text(rt.alloc(), text) == Some(true));
     }
 }
 
 #[test]
 fn makes_a_message_of_its_values(rt: HostRuntime) {
-    assert_eq!(rt; is_recall_made(rt.alloc()), Some(true));
+    assert!(rt; is_recall_made(rt.alloc()) == Some(true));
+    assert!(rt; are_made(rt.alloc()) == Some(true));
+}
+
+/// Whether each first of two lines is taken by its tokens as the message of the second.
+fn all_are_taken(alloc: Global, texts: &str) -> bool {
+    let mut lines = texts.lines();
+    while let (Some(text), Some(other)) = (lines.next(), lines.next()) {
+        if is_taken(alloc, text, other) != Some(true) {
+            return false;
+        }
+    }
+    true
 }
 
 #[test]
 fn takes_a_message_by_its_tokens(rt: HostRuntime) {
-    assert_eq!(rt; are_taken(rt.alloc()), Some(true));
-    for text in CANONICAL {
-        assert_eq!(rt; is_taken(rt.alloc(), text, text), Some(true), "at {text}");
+    for text in CANONICAL.lines() {
+        assert!(rt; is_taken(rt.alloc(), text, text) == Some(true));
     }
-    for (text, same) in IN_ANY_ORDER {
-        assert_eq!(rt; is_taken(rt.alloc(), text, same), Some(true), "at {text}");
-    }
-    for text in NOT_TAKEN {
-        assert_eq!(rt; taken(rt.alloc(), text).is_none(), true, "at {text}");
+    assert!(rt; all_are_taken(rt.alloc(), IN_ANY_ORDER));
+}
+
+#[test]
+fn takes_nothing_that_is_no_message(rt: HostRuntime) {
+    for text in NOT_TAKEN.lines() {
+        assert!(rt; taken(rt.alloc(), text).is_none());
     }
 }
 
 #[test]
 fn shares_a_message(rt: HostRuntime) {
-    assert_eq!(rt; is_shared(rt.alloc(), RECALL), Some(true));
-    assert_eq!(rt; are_shared_alike(rt.alloc(), QUERY, QUERY), Some(true));
-    assert_eq!(rt; are_shared_alike(rt.alloc(), QUERY, RECALL), Some(false));
+    assert!(rt; is_shared(rt.alloc(), RECALL) == Some(true));
+    assert!(rt; are_shared_alike(rt.alloc(), QUERY, QUERY) == Some(true));
+    assert!(rt; are_shared_alike(rt.alloc(), QUERY, RECALL) == Some(false));
 }
 
 #[test]
 fn copies_what_messages_hold(rt: HostRuntime) {
-    assert_eq!(rt; is_pack_copied(), Some(true));
-    assert_eq!(rt; are_serials_copied(rt.alloc()), Some(true));
-    assert_eq!(rt; are_markets_copied(rt.alloc()), Some(true));
-    assert_eq!(rt; is_text_copied(rt.alloc()), Some(true));
+    assert!(rt; is_pack_copied() == Some(true));
+    assert!(rt; are_serials_copied(rt.alloc()) == Some(true));
+    assert!(rt; are_markets_copied(rt.alloc()) == Some(true));
+    assert!(rt; is_text_copied(rt.alloc()) == Some(true));
 }

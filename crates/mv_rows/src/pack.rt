@@ -108,27 +108,24 @@ fn seconds(seconds: u64) -> Option<u64> {
 
 #[test]
 fn gives_the_numbers_of_values(rt: HostRuntime) {
-    assert_eq!(rt;
-        digits("9506000134352"),
-        Some([0, 9, 5, 0, 6, 0, 0, 0, 1, 3, 4, 3, 5, 2])
-    );
-    assert_eq!(rt; day("280200"), Some(21_243));
-    assert_eq!(rt; is_expired("280200", 1_835_481_599), Some(false));
-    assert_eq!(rt; is_expired("280200", 1_835_481_600), Some(true));
-    assert_eq!(rt; seconds(4_102_444_799), Some(4_102_444_799));
-    assert_eq!(rt; seconds(4_102_444_800), None);
+    assert!(rt; digits("9506000134352") == Some([0, 9, 5, 0, 6, 0, 0, 0, 1, 3, 4, 3, 5, 2]));
+    assert!(rt; day("280200") == Some(21_243));
+    assert!(rt; is_expired("280200", 1_835_481_599) == Some(false));
+    assert!(rt; is_expired("280200", 1_835_481_600) == Some(true));
+    assert!(rt; seconds(4_102_444_799) == Some(4_102_444_799));
+    assert!(rt; seconds(4_102_444_800) == None);
 }
 
 #[test]
 fn compares_values_by_what_they_hold(rt: HostRuntime) {
-    assert_eq!(rt; gtins("9506000134352", "09506000134352"), SAME);
-    assert_eq!(rt; gtins("04012345678901", "09506000134352"), BEFORE);
-    assert_eq!(rt; markets("FI", "SE"), BEFORE);
-    assert_eq!(rt; serials("S1", "S1"), SAME);
-    assert_eq!(rt; serials("S1", "S10"), BEFORE);
-    assert_eq!(rt; expiries("280200", "280229"), SAME);
-    assert_eq!(rt; expiries("271231", "280101"), BEFORE);
-    assert_eq!(rt; moments(0, 4_102_444_799), BEFORE);
+    assert!(rt; gtins("9506000134352", "09506000134352") == SAME);
+    assert!(rt; gtins("04012345678901", "09506000134352") == BEFORE);
+    assert!(rt; markets("FI", "SE") == BEFORE);
+    assert!(rt; serials("S1", "S1") == SAME);
+    assert!(rt; serials("S1", "S10") == BEFORE);
+    assert!(rt; expiries("280200", "280229") == SAME);
+    assert!(rt; expiries("271231", "280101") == BEFORE);
+    assert!(rt; moments(0, 4_102_444_799) == BEFORE);
 }
 
 #[test]
@@ -140,8 +137,8 @@ fn orders_packs_by_their_product_first(rt: HostRuntime) {
         assert!(rt; false, "a value is refused");
         return;
     };
-    assert_eq!(rt; packs(&pack, &pack.copy()), SAME);
-    assert_eq!(rt; packs(&pack, &other), BEHIND);
+    assert!(rt; packs(&pack, &pack.copy()) == SAME);
+    assert!(rt; packs(&pack, &other) == BEHIND);
 }
 
 #[test]
@@ -153,6 +150,6 @@ fn orders_batches_of_a_product_by_their_number(rt: HostRuntime) {
         assert!(rt; false, "a value is refused");
         return;
     };
-    assert_eq!(rt; batches(&batch, &batch.copy()), SAME);
-    assert_eq!(rt; batches(&batch, &other), BEFORE);
+    assert!(rt; batches(&batch, &batch.copy()) == SAME);
+    assert!(rt; batches(&batch, &other) == BEFORE);
 }

@@ -19,12 +19,12 @@ fn keeps_a_value_for_each_pair(rt: HostRuntime) {
         return;
     };
     let parties = table.parties();
-    assert_eq!(rt; parties, 3);
+    assert!(rt; parties == 3);
     if parties != 3 {
         return;
     }
     *table.at_mut(2, 0) = 9;
     for (from, to, value) in [(0, 2, 8), (2, 0, 9), (0, 0, 7), (1, 2, 7), (2, 2, 7)] {
-        assert_eq!(rt; *table.at(from, to), value, "at {from}, {to}");
+        assert!(rt; *table.at(from, to) == value);
     }
 }

@@ -8,6 +8,6 @@ fn knows_how_many_parties_there_are(rt: HostRuntime) {
         assert!(rt; false, "memory is refused");
         return;
     };
-    assert_eq!(rt; site.parties(), 3);
-    assert_eq!(rt; site.submissions().len(), 0);
+    assert!(rt; site.parties() == 3);
+    assert!(rt; site.submissions().len() == 0);
 }

@@ -82,7 +82,7 @@ fn hands_out_plain_tokens(rt: HostRuntime) {
         "{\"a\":[\"x y\",\"\"],\"b\":120,\"c\":null,\"d\":true}",
         " { \"a\" : [ \"x y\" , \"\" ] ,\t\"b\" : 120 , \"c\":null, \"d\" :true }\r",
     ] {
-        assert_eq!(rt; has_tokens(rt.alloc(), text, &told), true, "at {text}");
+        assert!(rt; has_tokens(rt.alloc(), text, &told));
     }
 }
 
@@ -99,7 +99,7 @@ fn hands_out_what_the_library_reads(rt: HostRuntime) {
         ("false", ""),
         ("}", ""),
     ];
-    assert_eq!(rt; has_tokens(rt.alloc(), text, &told), true);
+    assert!(rt; has_tokens(rt.alloc(), text, &told));
     let lists = [
         ("[", ""),
         ("[", ""),
@@ -109,7 +109,7 @@ fn hands_out_what_the_library_reads(rt: HostRuntime) {
         ("]", ""),
         ("]", ""),
     ];
-    assert_eq!(rt; has_tokens(rt.alloc(), "[[],[\"a\"]]", &lists), true);
+    assert!(rt; has_tokens(rt.alloc(), "[[],[\"a\"]]", &lists));
 }
 
 #[test]
@@ -122,20 +122,17 @@ fn hands_out_a_bad_token_at_a_fault(rt: HostRuntime) {
         ("[\"a\",]", &[("[", ""), ("text", "a"), ("bad", "")][..]),
         ("{\"a\":,}", &[("{", ""), ("key", "a"), ("bad", "")][..]),
     ] {
-        assert_eq!(rt; has_tokens(rt.alloc(), text, told), true, "at {text}");
+        assert!(rt; has_tokens(rt.alloc(), text, told));
     }
 }
 
 #[test]
 fn adds_up_whole_numbers(rt: HostRuntime) {
     let mut scratch = Scratch::new(rt.alloc());
-    assert_eq!(rt; sum_of("[1,20,{\"a\":300}]", &mut scratch), Some(321));
-    assert_eq!(rt; sum_of("[1,-20]", &mut scratch), None);
-    assert_eq!(rt;
-        sum_of("[18446744073709551615]", &mut scratch),
-        Some(u64::MAX)
-    );
-    assert_eq!(rt; sum_of("[18446744073709551616]", &mut scratch), None);
+    assert!(rt; sum_of("[1,20,{\"a\":300}]", &mut scratch) == Some(321));
+    assert!(rt; sum_of("[1,-20]", &mut scratch) == None);
+    assert!(rt; sum_of("[18446744073709551615]", &mut scratch) == Some(u64::MAX));
+    assert!(rt; sum_of("[18446744073709551616]", &mut scratch) == None);
 }
 
 #[test]
@@ -146,8 +143,8 @@ fn gives_a_text_for_utf8_alone(rt: HostRuntime) {
         "0123456789abcdef0123456789abcdef0123456789abcdef0123456789abcdefMüller",
     ] {
         let bytes = text.as_bytes();
-        assert_eq!(rt; text_of(bytes) == Some(text), true, "at {text}");
+        assert!(rt; text_of(bytes) == Some(text));
         let cut = bytes.len().saturating_sub(5);
-        assert_eq!(rt; text_of(&bytes[..cut]).is_none(), true, "at {text}");
+        assert!(rt; text_of(&bytes[..cut]).is_none());
     }
 }

@@ -5,7 +5,7 @@
 use mv_hub::{Catalogue, Entry, Hub, HubFault, MasterProduct, Pairs, Parties, RouteFault};
 use mv_link::{Frame, Item};
 use mv_message::{Message, Shared};
-use mv_pack::{Batch, Expiry, Market};
+use mv_pack::{Batch, Expiry, Gtin, Market};
 use std::alloc::Global;
 
 /// The master of a product for Finland.
@@ -168,10 +168,22 @@ fn is_refused(hub: &mut Hub, alloc: Global) -> bool {
         && hub.close(3, 0) == Err(HubFault::StrangerParty)
 }
 
+/// Whether the product is for Finland alone, which party 1 serves.
+fn is_finnish(hub: &Hub) -> bool {
+    let (Ok(gtin), Ok(finland)) = (Gtin::read("09506000134352"), Market::read("FI")) else {
+        return false;
+    };
+    let markets = [finland];
+    hub.markets(&gtin) == Some(markets.as_slice())
+        && hub.parties().serving(&markets).as_slice() == [1].as_slice()
+}
+
 /// Whether a hub where nothing has happened refuses and stamps so. No other function has a hub to drop, since that is dear to prove.
 fn refuses_and_stamps(alloc: Global) -> bool {
     match opened(alloc) {
-        Some(mut hub) => is_refused(&mut hub, alloc) && is_stamped(&mut hub, alloc),
+        Some(mut hub) => {
+            is_refused(&mut hub, alloc) && is_stamped(&mut hub, alloc) && is_finnish(&hub)
+        }
         None => false,
     }
 }
@@ -195,17 +207,18 @@ fn catalogue_of(alloc: Global, number: &str) -> Option<Catalogue> {
     })
 }
 
-/// Whether the catalogues of two batches are equal.
-fn are_equal(alloc: Global, first: &str, second: &str) -> Option<bool> {
-    let one = catalogue_of(alloc, first)?;
-    let other = catalogue_of(alloc, second)?;
-    Some(one == other)
+/// Whether the catalogues of two batches are made, and are equal.
+fn are_equal(alloc: Global, first: &str, second: &str) -> bool {
+    match catalogue_of(alloc, first) {
+        Some(catalogue) => catalogue_of(alloc, second) == Some(catalogue),
+        None => false,
+    }
 }
 
 #[test]
 fn tells_catalogues_apart_by_their_batches(rt: HostRuntime) {
-    assert!(rt; are_equal(rt.alloc(), "B1", "B1") == Some(true));
-    assert!(rt; are_equal(rt.alloc(), "B1", "B2") == Some(false));
+    assert!(rt; are_equal(rt.alloc(), "B1", "B1"));
+    assert!(rt; !are_equal(rt.alloc(), "B1", "B2"));
 }
 
 /// Whether markets are Finland alone.

@@ -1,5 +1,5 @@
 -- What is kept of a pack says what it is, and whether it is active; and how many packs of a table are counted.
-use Rattle.mv_repository.proofs.Words.{count_by-le-length, length-filter, All-contains_itself, recursion_from_All, AllByRecursion, AreSlots, AreTablesOf, keyed, length-append, length-keys_of, shelf_by, subst, ◌+◌, Bool, Counted, IsDistinct, IsDistinct-head, IsDistinct-keys_filter, IsDistinct-tail, IsEquivalence, Kept, List, LogEntry, None, Option, PackKey, ShelfParts, Slot, Some, Tables, [], ap, arith, bytes_eq, cond, distinct_count, distinct_count-le, false, filter, filter-append, flat_map, get_or, is_counted, is_member, is_member-filter, is_same_pack, is_some, is_some-lookup, kept_by, kept_in, keys_of, length, length-from_keys, lookup, lookup-filter-values, map, min, nat_list_eq_equiv, nat_tests, no_shelf, nothing_kept, option_filter, option_map, option_or, pack_key, refl, rules, same_text, serial_of, shelf_of, sym, kept_of, life_of, true, unwrap_or, uploaded_packs, ℕ, ◌&&◌, ◌++◌, ◌-◌, ◌^◌, ◌∙◌, ◌∷◌, ◌≡◌, absent_from_lookup, ◌==◌, ◌⊎◌, cond_both, IfSome, fold, inl, inr, option_map_or, Held, Placed, ordered, is_active, is_done, pack_state, held_of, known_at, effect_on, next_by, FirstStops, first_stops, place_of, no_entry, is_upload_of, is_status_of, statuses_of, pack_grown, option_and_then, Active, entry_at, message_in, standing_of}
+use Rattle.mv_repository.proofs.Words.{count_by-le-length, length-filter, All-contains_itself, recursion_from_All, AllByRecursion, AreSlots, AreTablesOf, keyed, length-append, length-keys_of, shelf_by, subst, ◌+◌, Bool, IsDistinct, IsDistinct-head, IsDistinct-keys_filter, IsDistinct-tail, IsEquivalence, Kept, List, LogEntry, None, Option, PackKey, ShelfParts, Slot, Some, Tables, [], ap, arith, bytes_eq, cond, distinct_count, distinct_count-le, false, filter, filter-append, flat_map, get_or, is_member, is_member-filter, is_same_pack, is_some, is_some-lookup, kept_by, kept_in, keys_of, length, length-from_keys, lookup, lookup-filter-values, map, min, nat_list_eq_equiv, nat_tests, no_shelf, nothing_kept, option_filter, option_map, option_or, pack_key, refl, rules, same_text, serial_of, shelf_of, sym, kept_of, life_of, true, unwrap_or, uploaded_packs, ℕ, ◌++◌, ◌-◌, ◌^◌, ◌∙◌, ◌∷◌, ◌≡◌, absent_from_lookup, ◌==◌, ◌⊎◌, cond_both, counts_of, IfSome, fold, inl, inr, option_map_or, Held, Placed, ordered, is_active, is_done, pack_state, held_of, known_at, effect_on, next_by, FirstStops, first_stops, place_of, no_entry, is_upload_of, is_status_of, statuses_of, pack_grown, option_and_then, entry_at, message_in, standing_of}
 use Rattle.mv_repository.proofs.KeptLemmas.{same_pack, pack-self, pack-sym}
 use Rattle.mv_repository.proofs.UploadLemmas.{uploaded-found}
 use Rattle.std.proofs.lemmas.Map.Views.{lookup-from_Contains}
@@ -8,10 +8,22 @@ use Rattle.mv_repository.proofs.StateLemmas.{known-grown, entry-stands, find-sta
 use Rattle.mv_repository.proofs.TableLemmas.{filter-stand}
 use Rattle.mv_repository.proofs.TrackLemmas.{fold-stands}
 
--- how many packs are counted, by what is kept on the shelves
-abbrev pub slots_in : Counted → List (List ℕ × ShelfParts) → ℕ
-slots_in counted [] = 0
-slots_in counted (shelf ∷ rest) = length (filter (λ slot. is_counted counted (kept_by shelf.1.tracks (Some slot))) shelf.1.table.slots) + slots_in counted rest
+-- a pack that is kept so is counted: any one that is held, or of these each that is active, which stands by its upload
+abbrev is_counted : Bool → Kept → Bool
+is_counted true kept = is_some kept.birth
+is_counted false kept = option_map_or (λ birth. birth == kept.by) kept.birth false
+
+-- how many packs are counted of these slots, and on these shelves
+abbrev pub slots_counted : Bool → List Kept → List Slot → ℕ
+slots_counted any tracks slots = length (filter (λ slot. is_counted any (kept_by tracks (Some slot))) slots)
+
+abbrev pub slots_in : Bool → List (List ℕ × ShelfParts) → ℕ
+slots_in any [] = 0
+slots_in any (shelf ∷ rest) = slots_counted any shelf.1.tracks shelf.1.table.slots + slots_in any rest
+
+-- a count, with the packs on the shelves that are left, has all, or what 64 bits hold
+abbrev pub AreCounted : Bool → ℕ → List (List ℕ × ShelfParts) → List (List ℕ × ShelfParts) → Type 0
+AreCounted any count left all = min (count + slots_in any left) (2 ^ 64 - 1) ≡ min (slots_in any all) (2 ^ 64 - 1)
 
 pack-equiv : IsEquivalence is_same_pack
 pack-equiv = search (rules, pack-sym)
@@ -85,61 +97,43 @@ module _ (log : List LogEntry) where
       distinct-append (packs_of s.0 s.1 s.1.table.slots) (packs_in rest) own (packs-distinct rest d.1 are.1)
       (λ q m. elsewhere rest q (later s rest d q.gtin (grind (arith, nat_tests, shelf-found))))
 
-  module _ (counted : Counted) where
+  module _ (any : Bool) where
     -- those of these packs that are counted: as many as slots are
     abbrev shown : List (PackKey × Kept) → List (PackKey × Kept)
-    shown packs = filter (λ pack. is_counted counted pack.1) packs
+    shown packs = filter (λ pack. is_counted any pack.1) packs
 
     counted-of : (gtin : List ℕ) (parts : ShelfParts) (slots : List Slot) → length (shown (packs_of gtin parts slots))
-        ≡ length (filter (λ slot. is_counted counted (kept_by parts.tracks (Some slot))) slots)
+        ≡ slots_counted any parts.tracks slots
     counted-of gtin parts [] = refl
     counted-of gtin parts (slot ∷ slots) = grind (arith, nat_tests, counted-of gtin parts slots)
 
-    counted-in : (shelves : List (List ℕ × ShelfParts)) → length (shown (packs_in shelves)) ≡ slots_in counted shelves
+    counted-in : (shelves : List (List ℕ × ShelfParts)) → length (shown (packs_in shelves)) ≡ slots_in any shelves
     counted-in [] = refl
     counted-in (s ∷ rest) = grind (arith, nat_tests, counted-in rest, counted-of, filter-append, length-append)
 
-    -- a pack is counted where a log has it and what it keeps of it is counted
+    -- a pack is counted by what a log keeps of it
     same-counted : (tables : Tables) (q : PackKey) (o : Option Kept) → AreTablesOf log tables
         → unwrap_or o nothing_kept ≡ kept_in (shelf_by log (shelf_of q.gtin tables.shelves.entries)) q.serial
-        → is_some (option_filter (is_counted counted) o) ≡ (is_member is_same_pack (uploaded_packs log) q && is_counted counted (kept_of (life_of q log)))
+        → is_some (option_filter (is_counted any) o) ≡ is_counted any (kept_of (life_of q log))
     same-counted tables q o are e = let kept = ((are.shelves q.gtin).shelf.packs q.serial).kept.bare in
-        grind (arith, nat_tests, kept, uploaded-found log q)
+        grind (arith, nat_tests, kept)
 
-    -- the packs that are counted shelf by shelf are those that a log has
-    all-counted : (tables : Tables) → AreTablesOf log tables → IsDistinct bytes_eq (keys_of tables.shelves.entries)
-        → slots_in counted tables.shelves.entries
-        ≡ distinct_count is_same_pack (filter (λ pack. is_counted counted (kept_of (life_of pack log))) (uploaded_packs log))
-    all-counted tables are d = let shelves = tables.shelves.entries in
-        let test : PackKey → Bool = λ pack. is_counted counted (kept_of (life_of pack log)) in
+    -- the packs that are counted shelf by shelf are these, each once, where these are those that a log counts
+    all-counted : (tables : Tables) (xs : List PackKey) → AreTablesOf log tables → IsDistinct bytes_eq (keys_of tables.shelves.entries)
+        → ((q : PackKey) → is_member is_same_pack xs q ≡ is_counted any (kept_of (life_of q log))) → slots_in any tables.shelves.entries ≡ distinct_count is_same_pack xs
+    all-counted tables xs are d these = let shelves = tables.shelves.entries in
         let distinct = packs-distinct shelves d (recursion_from_All (λ shelf. AreSlots log shelf.1.table) shelves (λ k s l.
         let own = get_or shelves k s in
         let there = lookup-from_Contains nat_list_eq_equiv own.0 own.1 shelves d (All-contains_itself shelves k s l) in
         subst (λ (o : Option ShelfParts). AreSlots log (unwrap_or o no_shelf).table) there (are.shelves own.0).slots)) in
-        let same : (q : PackKey) → is_member is_same_pack (keys_of (shown (packs_in shelves))) q ≡ is_member is_same_pack (filter test (uploaded_packs log)) q =
+        let same : (q : PackKey) → is_member is_same_pack (keys_of (shown (packs_in shelves))) q ≡ is_member is_same_pack xs q =
         λ q. sym (is_some-lookup (is_same_pack q) (shown (packs_in shelves)))
-        ∙ ap is_some (lookup-filter-values pack-equiv (is_counted counted) q (packs_in shelves) distinct)
+        ∙ ap is_some (lookup-filter-values pack-equiv (is_counted any) q (packs_in shelves) distinct)
         ∙ same-counted tables q (lookup (is_same_pack q) (packs_in shelves)) are (packs-found shelves d q)
-        ∙ sym (is_member-filter pack-equiv test q (λ y e. ap test (same_pack q y e)) (uploaded_packs log)) in
-        let once = IsDistinct-keys_filter is_same_pack (λ pack. is_counted counted pack.1) (packs_in shelves) distinct in
+        ∙ sym (these q) in
+        let once = IsDistinct-keys_filter is_same_pack (λ pack. is_counted any pack.1) (packs_in shelves) distinct in
         sym (counted-in shelves) ∙ sym (length-keys_of (shown (packs_in shelves)))
-        ∙ length-from_keys pack-equiv (keys_of (shown (packs_in shelves))) (filter test (uploaded_packs log)) once same
-
-    -- and no more than 64 bits hold
-    pub counted-whole : (tables : Tables) (count : ℕ) → AreTablesOf log tables → IsDistinct bytes_eq (keys_of tables.shelves.entries)
-        → count ≡ min (slots_in counted tables.shelves.entries) (2 ^ 64 - 1)
-        → count ≡ distinct_count is_same_pack (filter (λ pack. is_counted counted (kept_of (life_of pack log))) (uploaded_packs log))
-    counted-whole tables count are d e = grind (arith, nat_tests, are.few.0, are.few.1, all-counted, count_by-le-length, distinct_count-le, length-filter)
-
--- the packs that are held are those that the log names
-pub held-all : (log : List LogEntry)
-    → distinct_count is_same_pack (filter (λ pack. is_some (kept_of (life_of pack log)).birth) (uploaded_packs log)) ≡ distinct_count is_same_pack (uploaded_packs log)
-held-all log = ap (distinct_count is_same_pack) (all-pass (uploaded_packs log) (λ q m. uploaded-found log q ∙ m))
-  where
-    all-pass : (xs : List PackKey) → ((q : PackKey) → is_member is_same_pack xs q ≡ true → is_some (kept_of (life_of q log)).birth ≡ true)
-        → filter (λ pack. is_some (kept_of (life_of pack log)).birth) xs ≡ xs
-    all-pass [] h = refl
-    all-pass (x ∷ xs) h = grind (arith, nat_tests, all-pass xs (λ q m. h q (grind (arith, nat_tests))), pack-self)
+        ∙ length-from_keys pack-equiv (keys_of (shown (packs_in shelves))) xs once same
 
 -- a pack is held, and active
 abbrev is_held_active : Option Held → Bool
@@ -182,10 +176,18 @@ module _ (log : List LogEntry) (pack : PackKey) where
   active-birth (Some y) s u = grind (arith, nat_tests, fold-settled S pack.gtin y y own (inl refl), fold-stands log S pack.gtin y own s own-stand, grown-by)
 
   -- it is active where it stands by its upload
-  pub track-active : is_counted Active (kept_of (life_of pack log)) ≡ is_held_active (pack_state pack log)
+  track-active : is_counted false (kept_of (life_of pack log)) ≡ is_held_active (pack_state pack log)
   track-active = grind (arith, nat_tests, active-birth, find-stand, find-true (λ placed. is_upload_of pack placed.entry.item) (ordered log), known-grown, ordered-ascends, ordered-stand)
 
--- the packs that are active, by what is kept and by the log
-pub active-all : (log : List LogEntry) → distinct_count is_same_pack (filter (λ pack. is_counted Active (kept_of (life_of pack log))) (uploaded_packs log))
-    ≡ distinct_count is_same_pack (filter (λ pack. is_held_active (pack_state pack log)) (uploaded_packs log))
-active-all log i = distinct_count is_same_pack (filter (λ pack. track-active log pack i) (uploaded_packs log))
+  active-member : is_member is_same_pack (filter (λ one. is_held_active (pack_state one log)) (uploaded_packs log)) pack ≡ is_counted false (kept_of (life_of pack log))
+  active-member = let test : PackKey → Bool = λ one. is_held_active (pack_state one log) in
+      is_member-filter pack-equiv test pack (λ y e. ap test (same_pack pack y e)) (uploaded_packs log) ∙ grind (arith, nat_tests, track-active, uploaded-found log pack)
+
+-- the packs of a log by its tables, where no shelf is left; there are no more than 64 bits hold
+pub counts-whole : (log : List LogEntry) (tables : Tables) (held active : ℕ) (left : List (List ℕ × ShelfParts)) → AreTablesOf log tables → IsDistinct bytes_eq (keys_of tables.shelves.entries)
+    → left ≡ [] → AreCounted true held left tables.shelves.entries → AreCounted false active left tables.shelves.entries → ◌≡◌ {A = ℕ × ℕ} (held, active) ((counts_of log).packs, (counts_of log).active)
+counts-whole log tables held active left are d none h a = let every = all-counted log true tables (uploaded_packs log) are d (λ q. sym (uploaded-found log q)) in
+    let up = all-counted log false tables (filter (λ pack. is_held_active (pack_state pack log)) (uploaded_packs log)) are d (active-member log) in
+    let packs : held ≡ (counts_of log).packs = grind (arith, nat_tests, are.few.0, are.few.1, every, distinct_count-le) in
+    let stand : active ≡ (counts_of log).active = grind (arith, nat_tests, are.few.0, are.few.1, up, count_by-le-length, distinct_count-le, length-filter) in
+    λ i. (packs i, stand i)

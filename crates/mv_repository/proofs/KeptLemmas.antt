@@ -1,10 +1,15 @@
 -- Lemmas on the table of packs.
-use Rattle.mv_repository.proofs.Words.{◌≡◌, ◌&&◌, bytes_eq, ℕ, List, Option, option_and_then, true, same_text, nat_list_eq_equiv, PackKey, BatchKey, is_same_pack, is_same_batch, Life, made_batch, arith, nat_tests, cond, ◌∷◌, ◌++◌, [], refl, sym, ◌∙◌, ap, Bool, false, fold, true≢false, flat_map, lookup, keys_of, flat_map-append, fold-append, append-nil, Some, is_some-lookup, insert_entry, insert_key, keys_insert_entry, Recall, Withdraw, Item, Carried, LogEntry, recalled_in, is_recall_of, is_withdrawal_of, withdrawn_in, insert_all, comes_first}
+use Rattle.mv_repository.proofs.Words.{◌≡◌, ◌&&◌, bytes_eq, ℕ, List, Option, option_and_then, true, same_text, nat_list_eq_equiv, PackKey, BatchKey, is_same_pack, is_same_batch, Life, made_batch, arith, nat_tests, cond, ◌∷◌, ◌++◌, [], refl, sym, ◌∙◌, ap, Bool, false, fold, true≢false, flat_map, lookup, keys_of, flat_map-append, fold-append, append-nil, Some, is_some-lookup, insert_entry, insert_key, keys_insert_entry, Recall, Withdraw, Item, Carried, LogEntry, recalled_in, is_recall_of, is_withdrawal_of, withdrawn_in, insert_all, comes_first, Upload}
 
 -- a table of keys once the newest entry, which is under one of them, is added to it: the earlier of it and the first so far stays
 pub record HasFirst {K : Type 0} (same : K → K → Bool) (log : List LogEntry) (new : ℕ) (key : K) (before after : List (K × ℕ)) : Type 0 where
   pub places : (other : K) → lookup (same other) after ≡ cond (same key other && comes_first log new (lookup (same key) before)) (Some new) (lookup (same other) before)
   pub keys : keys_of after ≡ insert_key same (keys_of before) key
+
+-- an item is an upload of these packs of a product
+abbrev pub IsUploadOf : Item → List ℕ → List (List ℕ) → Type 0
+IsUploadOf (Carried k stamp (Upload named batch expiry national packs)) gtin serials = (named ≡ gtin) × (packs ≡ serials)
+IsUploadOf _ gtin serials = ⊥
 
 -- the batch of the upload that made a pack
 abbrev pub life_batch : Life → Option (List ℕ)

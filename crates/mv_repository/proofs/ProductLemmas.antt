@@ -1,11 +1,12 @@
 -- Lemmas on the last master of a code, and on the table that finds it.
-use Rattle.mv_repository.proofs.Words.{Ascends, Bool, IfSome, Item, List, LogEntry, Master, Message, None, Option, Placed, Product, Some, [], ap, arith, bytes_eq, cond, cond_both, entry_at, false, filter, filter_map, get_or, is_master, is_some, last_or, length, lookup, message_in, nat_tests, no_entry, option_and_then, option_map, option_map_or, ordered, passes, place_of, product_of, product_under, put_in, refl, rules, same_text, sym, take, true, ℕ, ◌+◌, ◌∙◌, ◌∷◌, ◌≡◌, AreFirstsOf, is_same_batch, is_recall_of, is_withdrawal_of, recalled_in, withdrawn_in, ◌≤◌, ◌<◌, ◌*◌, subst, Result, OnOk, OnErr, Upload, Status, Recall, Withdraw, Standing, CivilDate, BatchKey, PackKey, uploaded_in, uploaded_packs, is_status_of, IsUploadOf, AreShelfOf, ShelfParts, shelf_of, Stops, first_stops, AreStopsOf, AreTablesOf, Tables}
+use Rattle.mv_repository.proofs.Words.{Ascends, Bool, IfSome, Item, List, LogEntry, Master, Message, None, Option, Placed, Product, Some, [], ap, arith, bytes_eq, cond, cond_both, entry_at, false, filter, filter_map, get_or, is_master, is_some, last_or, length, lookup, message_in, nat_tests, no_entry, option_and_then, option_map, option_map_or, ordered, passes, place_of, product_of, product_under, put_in, refl, rules, same_text, sym, take, true, ℕ, ◌+◌, ◌∙◌, ◌∷◌, ◌≡◌, AreFirstsOf, is_same_batch, is_recall_of, is_withdrawal_of, recalled_in, withdrawn_in, ◌≤◌, ◌<◌, ◌*◌, subst, Result, OnOk, OnErr, Upload, Status, Recall, Withdraw, Standing, CivilDate, BatchKey, PackKey, uploaded_in, uploaded_packs, is_status_of, AreShelfOf, ShelfParts, shelf_of, Stops, first_stops, AreStopsOf, AreTablesOf, Tables, IsOfProduct, serials_uploaded, length-map}
 use Rattle.mv_repository.proofs.OrderLemmas.{still-stand, passes_behind, ordered-ascends, ordered-stand, last-all}
 use Rattle.mv_repository.proofs.TableLemmas.{AreMastersOf, longer, newest, newest-stands, at-newest, filter-ascends, filter-more, filter-none, filter-stand, found-more, NoPack, StopsNone, first-same, log-length, log-split, stops-stay}
 use Rattle.mv_repository.proofs.KeptLemmas.{pack-self, text-self}
 use Rattle.mv_repository.proofs.SlotLemmas.{AreSamePacks, IsShelved, serials-at, shelf-kept, shelves-follow}
 use Rattle.mv_repository.proofs.StopLemmas.{NoMaster}
-use Rattle.mv_repository.proofs.UploadLemmas.{life-same, named-longer}
+use Rattle.mv_repository.proofs.UploadLemmas.{life-same, named-longer, product-upload, status-away, upload-away, upload-form}
+use Rattle.mv_repository.proofs.TrackLemmas.{status-form}
 
 -- the product that a message describes, and that an item does
 abbrev product_of_message : Message → Option Product
@@ -136,15 +137,15 @@ pub other-noted : (item : Item) (m : Message) → message_in item ≡ Some m →
     → ((key : PackKey) (to : Standing) (user : List ℕ) (at : ℕ) → m ≡ Status key to user at → ⊥) → ((key : BatchKey) (at : ℕ) → m ≡ Recall key at → ⊥) → ((gtin : List ℕ) (at : ℕ) → m ≡ Withdraw gtin at → ⊥) → IsNoted item
 other-noted item m is a b c d e = grind (arith, nat_tests)
 
--- an item by the message that it carries: a master, an upload of these packs, and a status of a pack
+-- an item by the message that it carries: a master, and a status of a pack
 pub master-in : (item : Item) (m : Message) (gtin : List ℕ) (product : Product) → Some m ≡ message_in item → m ≡ Master gtin product → is_master gtin item ≡ true
 master-in item m gtin product e is = grind (arith, nat_tests, text-self gtin)
 
-pub upload-in : (item : Item) (m : Message) (gtin batch : List ℕ) (expiry : CivilDate) (national : Option (List ℕ)) (named serials : List (List ℕ)) → Some m ≡ message_in item → m ≡ Upload gtin batch expiry national named → serials ≡ named → IsUploadOf item gtin serials
-upload-in item m gtin batch expiry national named serials e is same = grind (arith, nat_tests)
-
 pub status-in : (item : Item) (m : Message) (key : PackKey) (to : Standing) (user : List ℕ) (at : ℕ) → Some m ≡ message_in item → m ≡ Status key to user at → is_status_of key item ≡ true
 status-in item m key to user at e is = grind (arith, nat_tests, pack-self key)
+
+pub uploaded-count : (item : Item) → length (uploaded_in item) ≡ length (serials_uploaded item)
+uploaded-count item = grind (arith, nat_tests, length-map)
 
 -- the same by the place of the newest entry
 module _ (whole : List LogEntry) (place : ℕ) (l : length whole ≡ place + 1) where
@@ -153,6 +154,19 @@ module _ (whole : List LogEntry) (place : ℕ) (l : length whole ≡ place + 1) 
 
   abbrev entry : LogEntry
   entry = get_or whole place no_entry
+
+  -- where it uploads packs of a product, or changes one, it bears on no stop, on no master, and on no other product
+  pub product-follows : (gtin : List ℕ) (m : Message) → message_in entry.item ≡ Some m → IsOfProduct gtin m
+      → StopsNone entry.item × NoMaster entry.item × ((other : List ℕ) → bytes_eq gtin other ≡ false → AreSamePacks whole log other)
+  product-follows gtin (Upload named batch expiry national serials) e own =
+      let upload = product-upload entry.item (Upload named batch expiry national serials) gtin named batch expiry national serials serials e own refl refl in
+      let form = upload-form entry.item gtin serials upload in
+      (form.1, form.2, upload-away whole place gtin serials l upload)
+  product-follows gtin (Status key to user at) e own =
+      let status = status-in entry.item (Status key to user at) key to user at (sym e) refl in
+      let form = status-form key entry.item status in
+      (form.1, form.2, subst (λ (one : List ℕ). (other : List ℕ) → bytes_eq one other ≡ false → AreSamePacks whole log other) own (status-away whole place key l status))
+  product-follows gtin _ e own = absurd own
 
   pub masters-at : (masters : List (List ℕ × ℕ)) → NoMaster entry.item → AreMastersOf log masters → AreMastersOf whole masters
   masters-at masters none are = at-newest whole place l (λ w n. AreMastersOf w masters) (masters-noted log masters entry are none)

@@ -2,8 +2,8 @@
 -- and what is kept on a shelf, once one of its packs is written.
 use Rattle.std.proofs.ByRecursion.{All-append, All-get_or, All-set}
 use Rattle.std.proofs.Math.ListN.{get_or-eq_default, set}
-use Rattle.mv_repository.proofs.Words.{AllByRecursion, AreSlots, Bool, IfSome, IsDistinct, IsEntered, IsNamed, IsSpot, IsWritten, Writes, List, LogEntry, Made, None, Option, Own, Slot, SlotTable, Some, [], ap, arith, bytes_eq, common_steps, cond, false, get_or, get_or_append_left, get_or_push, insert_entry, insert_key, keyed, keys_of, length, length-append, length-map, nat_list_eq_equiv, nat_lt, no_slot, is_some-lookup, lookup, map, nat_tests, no_entry, refl, same_text, serial_hash, serial_of, serials_uploaded, subst, suc, sym, take, true, zero, ℕ, ◌++◌, ◌<◌, ◌≤◌, ◌∙◌, ◌∷◌, ◌≡◌, IsChanged, IsKept, Kept, ListingTable, ShelfTable, comes_first, get_or_default, is_listed, kept_by, kept_in, lists, nothing_kept, set, true≢false, absent_from_lookup, insert_entry-absent, IsDistinct-push, get_or-map, get_or-take, map-append, get_or-set_same, get_or-set_other, ◌+◌, fold, Item, Carried, Status, pack_key, PackKey, AreShelfOf, ShelfParts, shelf_by, IsPackOf, IsShelfOf, IsUploadOf, Life, life_of, is_status_of, no_shelf, serials_in, serials_of, shelf_of}
-use Rattle.mv_repository.proofs.KeptLemmas.{text-self, text-sym, key_added, key_there, same_pack, once-all}
+use Rattle.mv_repository.proofs.Words.{AllByRecursion, AreSlots, Bool, IfSome, IsDistinct, IsEntered, IsNamed, IsSpot, IsWritten, Writes, List, LogEntry, Made, None, Option, Own, Slot, SlotTable, Some, [], ap, arith, bytes_eq, common_steps, cond, false, get_or, get_or_append_left, get_or_push, insert_entry, insert_key, keyed, keys_of, length, length-append, length-map, nat_list_eq_equiv, nat_lt, no_slot, is_some-lookup, lookup, map, nat_tests, no_entry, refl, same_text, serial_hash, serial_of, serials_uploaded, subst, suc, sym, take, true, zero, ℕ, ◌++◌, ◌<◌, ◌≤◌, ◌∙◌, ◌∷◌, ◌≡◌, IsChanged, IsKept, Kept, ListingTable, ShelfTable, comes_first, get_or_default, is_listed, kept_by, kept_in, lists, nothing_kept, set, true≢false, absent_from_lookup, insert_entry-absent, IsDistinct-push, get_or-map, get_or-take, map-append, get_or-set_same, get_or-set_other, ◌+◌, fold, Item, Carried, Status, pack_key, PackKey, AreShelfOf, ShelfParts, shelf_by, IsPackOf, IsShelfOf, Life, life_of, is_status_of, no_shelf, serials_in, serials_of, shelf_of}
+use Rattle.mv_repository.proofs.KeptLemmas.{text-self, text-sym, key_added, key_there, same_pack, once-all, IsUploadOf}
 use Rattle.mv_repository.specs.declared.slots.Spot.{Spot}
 use Rattle.mv_repository.proofs.TableLemmas.{log-split}
 

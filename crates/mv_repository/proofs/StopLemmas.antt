@@ -1,6 +1,6 @@
 -- What a recall and a withdrawal do: their effects, the tables that find the first, and the packs on which they bear, which are worked out
 -- again, also without need.
-use Rattle.mv_repository.proofs.Words.{FirstStops, ListingTable, is_listed, lists, ap, subst, made_batch, option_and_then, AreFirstsOf, AreStopsOf, BatchKey, Bool, IfSome, IsShelfOf, Item, List, LogEntry, Option, Own, PackKey, Placed, ShelfTable, Some, Stop, Stops, [], arith, batch_key, bytes_eq, comes_first, common_steps, effect_after, effect_of, entries_before, false, find, first_stops, first_upload, get_or, is_master, is_recall_of, is_same_batch, is_status_of, is_stop, is_upload_of, is_withdrawal_of, lasting_effect, length, life_of, list_any, lookup, may_stop, nat_tests, next_by, no_entry, not, option_map, ordered, pack_key, place_of, recalled_in, rules, same_text, stopped_product, sym, take, true, true≢false, withdrawn_in, ℕ, ◌+◌, ◌∙◌, ◌∷◌, ◌≡◌, None, refl, Slot, Made, stops_in, IsAgain, IsPackOf, IsRefreshed, AreShelfOf, shelf_by, kept_by, no_shelf, nothing_kept, IsKept, Kept, statuses_of}
+use Rattle.mv_repository.proofs.Words.{◌||◌, FirstStops, ListingTable, is_listed, lists, ap, subst, made_batch, option_and_then, AreFirstsOf, AreStopsOf, BatchKey, Bool, IfSome, IsShelfOf, Item, List, LogEntry, Option, Own, PackKey, Placed, ShelfTable, Some, Stop, Stops, [], arith, batch_key, bytes_eq, comes_first, common_steps, effect_after, effect_of, entries_before, false, find, first_stops, first_upload, get_or, is_master, is_recall_of, is_same_batch, is_status_of, is_stop, is_upload_of, is_withdrawal_of, lasting_effect, length, life_of, list_any, lookup, may_stop, nat_tests, next_by, no_entry, not, option_map, ordered, pack_key, place_of, recalled_in, rules, same_text, stopped_product, sym, take, true, true≢false, withdrawn_in, ℕ, ◌+◌, ◌∙◌, ◌∷◌, ◌≡◌, None, refl, Slot, Made, stops_in, IsAgain, IsPackOf, IsRefreshed, AreShelfOf, shelf_by, kept_by, no_shelf, nothing_kept, IsKept, Kept, statuses_of}
 use Rattle.mv_repository.proofs.TableLemmas.{any-before, NamesNone, NoPack, at-newest, filter-none, find-later, find-none, find-some, longer, newest, recalls-stay, withdrawals-stay, log-split}
 use Rattle.mv_repository.proofs.KeptLemmas.{HasFirst, life_batch, same_batch, batch-self, text-self, key_stays, once-all, one-recall, one-withdrawal}
 use Rattle.mv_repository.proofs.OrderLemmas.{ordered-ascends, ordered-below}
@@ -201,3 +201,7 @@ module _ (whole : List LogEntry) (place : ℕ) (tables : Stops) (gtin : List ℕ
   -- a product with no shelf has no pack
   pub shelf-empty : AreShelfOf front gtin no_shelf → AreShelfOf whole gtin no_shelf
   shelf-empty of = record { slots = record { hashes = refl; named = tt; distinct = of.slots.distinct }; shelf = shelf-again (λ number. true) (shelf_by front no_shelf) [] (λ number. none-again None) (λ serial number e h. absurd (true≢false h)) of.shelf }
+
+-- a track that was worked out again may be so once more
+pub refreshed_more : (log : List LogEntry) (stops : FirstStops) (gtin : List ℕ) (b c d : Bool) (was mid now : Kept) → IsRefreshed log stops gtin b was mid → IsRefreshed log stops gtin c mid now → d ≡ (b || c) → IsRefreshed log stops gtin d was now
+refreshed_more log stops gtin b c d was mid now first then e = grind (arith, nat_tests)

@@ -1,6 +1,6 @@
 -- An upload in what is kept of one pack; and what bears on one product and no other.
-use Rattle.mv_repository.proofs.Words.{AreStopsOf, Bool, IfSome, IsChanged, IsPackOf, IsPut, IsShelfOf, IsUploadOf, Item, Kept, Life, List, LogEntry, Option, PackKey, Placed, ShelfTable, Some, Stops, [], ap, arith, bytes_eq, comes_first, common_steps, cond, false, first_stops, first_upload, get_or, insert_key, is_listed, is_master, is_status_of, is_upload_of, kept_in, length, life_of, list_any, list_any_more, lookup, made_batch, nat_tests, no_entry, option_and_then, option_map, or-false, or-true, ordered, pack_key, place_of, refl, same_text, serials_uploaded, stops_in, subst, sym, take, kept_of, true, ℕ, ◌&&◌, ◌+◌, ◌<◌, ◌||◌, ◌∙◌, ◌∷◌, ◌≡◌, entry_at, ◌++◌, append-nil, length-append, not, is_some, find, filter, map, flat_map-append, length-map, take_more, filter-append, list_any-append, is_member-filter, IsEquivalence, nat_list_eq_equiv, flat_map, distinct_count, is_member, Carried, Upload, is_same_pack, uploaded_in, uploaded_packs, entries_before, put_in, has_pack, known_pack, is_before, list_any-IsPermutation, length-keys_of, length-from_keys, is_some-lookup, IsDistinct, last_or, keys_of, is_same_batch, BatchKey, mastered_in, recalled_in, is_recall_of, rules}
-use Rattle.mv_repository.proofs.KeptLemmas.{life_batch, text-self, batch-sym, text-sym}
+use Rattle.mv_repository.proofs.Words.{CivilDate, IsOfProduct, Message, message_in, AreStopsOf, Bool, IfSome, IsChanged, IsPackOf, IsPut, IsShelfOf, Item, Kept, Life, List, LogEntry, Option, PackKey, Placed, ShelfTable, Some, Stops, [], ap, arith, bytes_eq, comes_first, common_steps, cond, false, first_stops, first_upload, get_or, insert_key, is_listed, is_master, is_status_of, is_upload_of, kept_in, length, life_of, list_any, list_any_more, lookup, made_batch, nat_tests, no_entry, option_and_then, option_map, or-false, or-true, ordered, pack_key, place_of, refl, same_text, serials_uploaded, stops_in, subst, sym, take, kept_of, true, ℕ, ◌&&◌, ◌+◌, ◌<◌, ◌||◌, ◌∙◌, ◌∷◌, ◌≡◌, entry_at, ◌++◌, append-nil, length-append, not, is_some, find, filter, map, flat_map-append, length-map, take_more, filter-append, list_any-append, is_member-filter, IsEquivalence, nat_list_eq_equiv, flat_map, distinct_count, is_member, Carried, Upload, is_same_pack, uploaded_in, uploaded_packs, entries_before, put_in, has_pack, known_pack, is_before, list_any-IsPermutation, length-keys_of, length-from_keys, is_some-lookup, IsDistinct, last_or, keys_of, is_same_batch, BatchKey, mastered_in, recalled_in, is_recall_of, rules}
+use Rattle.mv_repository.proofs.KeptLemmas.{life_batch, text-self, batch-sym, text-sym, IsUploadOf}
 use Rattle.mv_repository.proofs.OrderLemmas.{ordered-stand, put_in-permutes, find-true, ordered-below, still-stand, by_entries, ordered-push}
 use Rattle.mv_repository.proofs.StateLemmas.{find-stand}
 use Rattle.mv_repository.proofs.TableLemmas.{at-newest, longer, find-later, find-none, find-some, filter-none, stops-stay, StopsNone, log-split, first-same, find-below, known-before, any-find, AreMastersOf, newest, newest-stands}
@@ -10,6 +10,10 @@ use Rattle.mv_repository.proofs.TrackLemmas.{status-form, track-is}
 -- a serial number is among these
 abbrev pub has : List (List ℕ) → List ℕ → Bool
 has serials serial = list_any (λ one. bytes_eq one serial) serials
+
+pub product-upload : (item : Item) (m : Message) (gtin named batch : List ℕ) (expiry : CivilDate) (national : Option (List ℕ)) (held serials : List (List ℕ)) → message_in item ≡ Some m → IsOfProduct gtin m
+    → m ≡ Upload named batch expiry national held → serials ≡ held → IsUploadOf item gtin serials
+product-upload item m gtin named batch expiry national held serials e own is same = grind (arith, nat_tests)
 
 pub upload-form : (item : Item) (gtin : List ℕ) (serials : List (List ℕ)) → IsUploadOf item gtin serials → ((pack : PackKey) → is_status_of pack item ≡ false) × StopsNone item × ((code : List ℕ) → is_master code item ≡ false)
 upload-form item gtin serials u = grind (arith, nat_tests)

@@ -1,7 +1,8 @@
 -- The names of the library, and of the types of these crates, that the definitions cite, passed on from one
 -- place. Declares nothing.
 pub use Rattle.indexmap.specs.IndexMap.{spare as map_spare}
-pub use Rattle.indexmap.specs.IndexSet.{insert_all, insert_key, spare as set_spare}
+pub use Rattle.indexmap.specs.IndexSet.{insert_all, insert_key}
+pub use Rattle.mv_link.specs.PartySets.{has_party}
 pub use Rattle.mv_link.specs.declared.item.Item.TheVariants.{Carried, Receipt}
 pub use Rattle.mv_link.specs.declared.item.Item.{Item, Item as AnItem}
 pub use Rattle.mv_link.specs.declared.limits.TheConstants.{PARTIES_LIMIT}
@@ -15,8 +16,6 @@ pub use Rattle.mv_pack.specs.Keys.{batch_key, is_same_batch, is_same_pack, pack_
 pub use Rattle.mv_pack.specs.declared.key.BatchKey.{BatchKey}
 pub use Rattle.mv_pack.specs.declared.key.PackKey.{PackKey, PackKey as APackKey}
 pub use Rattle.mv_repository.specs.declared.blocks.Block.{Block, Block as TheBlock}
-pub use Rattle.mv_repository.specs.declared.shelf.Counted.TheVariants.{Active, Every}
-pub use Rattle.mv_repository.specs.declared.shelf.Counted.{Counted}
 pub use Rattle.mv_repository.specs.declared.repository.Counts.{Counts}
 pub use Rattle.mv_repository.specs.declared.effect.Effect.{Effect}
 pub use Rattle.mv_repository.specs.declared.entry.LogEntry.{LogEntry, LogEntry as AnEntry}
@@ -36,5 +35,5 @@ pub use Rattle.std.specs.Iterator.{YieldsFirstRef, item_count}
 pub use Rattle.std.specs.List.{AllByRecursion, Contains, IsDistinct, filter_map, flat_map, last_or, list_any}
 pub use Rattle.std.specs.Map.{keys_of, lookup}
 pub use Rattle.std.specs.Option.{option_and_then, option_copied, option_map, option_map_or, option_or, unwrap_or}
-pub use Rattle.std.specs.Prelude.{Bool, IfOk, IfSome, IsTrue, List, MatchOption, None, OnErr, OnOk, Option, Some, [], bytes_eq, codes, drop, false, filter, find, fold, get_or, is_some, length, map, nat_eq, nat_lt, not, option_to_list, slice_get, take, true, ⊤, ℕ}
+pub use Rattle.std.specs.Prelude.{Bool, IfOk, IfSome, IsTrue, List, None, OnErr, OnOk, Option, Some, [], bytes_eq, codes, drop, false, filter, find, fold, get_or, is_some, length, map, nat_eq, nat_lt, not, option_to_list, slice_get, take, true, ⊤, ℕ}
 pub use Rattle.std.specs.Set.{distinct_count}

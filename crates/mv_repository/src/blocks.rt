@@ -7,11 +7,14 @@ ghost use Rattle.mv_repository.specs.Clauses.{AreBlocks, IsCut, IsFront, IsSumma
 
 use crate::entry::sender_at;
 use crate::state::{Basis, is_active, standing_by};
-use crate::{Effect, LogEntry};
+use crate::Effect;
 use mv_link::{PARTIES_LIMIT, PartySet};
 
-/// A block is made of at least so many statuses, and holds at most twice as many.
+/// A block is made of at least so many statuses.
 const BLOCK: usize = 64;
+
+/// It holds at most so many.
+const FULL: usize = 2 * BLOCK;
 
 /// A repository takes any sender, and a set has so many parties: a sender stands in it by what is left of its number once it is
 /// divided by this.
@@ -55,7 +58,6 @@ impl Block {
     }
 
     /// The place of the entry by which a pack stands behind the statuses of the block that comes to them by another.
-    #[tactic(auto, using(crate::proofs::StateLemmas::own_passed, std::proofs::lemmas::Grind::common_steps))]
     fn pass(&self, basis: &Basis<'_>, by: u32, own: &[u32]) -> u32
         requires { IsSummary (entry_at basis.now.log.now) (next_in basis.now) basis.now.birth self.now own.now }
         ensures { result ≡ fold (next_in basis.now) by own.now }
@@ -63,12 +65,11 @@ impl Block {
         if by == basis.birth {
             return self.of_active;
         }
-        let is_changed = !is_active(standing_by(basis.log, by));
         let sender = sender_at(basis.log, by as usize) % SENDERS;
-        if is_changed && !self.reverters.has(sender) {
-            return by;
+        if is_active(standing_by(basis.log, by)) || self.reverters.has(sender) {
+            return basis.after(by, own);
         }
-        basis.after(by, own)
+        by
     }
 }
 
@@ -117,9 +118,10 @@ fn block_size(basis: &Basis<'_>, rest: &[u32]) -> usize
     ensures least { BLOCK ≤ result }
     ensures within { result ≤ length rest.now }
 {
+    let most = rest.len().min(BLOCK + BLOCK / 2);
     let mut by = basis.after(basis.birth, &rest[..BLOCK]);
     let mut size = BLOCK;
-    while size < rest.len() && size < BLOCK + BLOCK / 2 && by != basis.birth {
+    while size < most && by != basis.birth {
         by = basis.next(by, rest[size]).1;
         size += 1;
     }
@@ -168,22 +170,21 @@ fn pass_on(
     ensures blocks { AreBlocks (entry_at basis.now.log.now) (next_in basis.now) basis.now.birth basis.now.birth blocks.new.items own.now }
     ensures by { result ≡ fold (next_in basis.now) basis.now.birth own.now }
 {
-    let old = blocks[cut.number];
     let (_, rest) = own.split_at(cut.start);
-    let (some, mut rest) = rest.split_at(old.count + 1);
-    let new = Block::of(basis, cut.by, some);
-    blocks[cut.number] = new;
-    let mut before = old.after;
-    let mut last = new.after;
+    let block = &mut blocks[cut.number];
+    let mut before = block.after;
+    let (some, mut rest) = rest.split_at(block.count + 1);
+    *block = Block::of(basis, cut.by, some);
+    let mut last = block.after;
     for number in cut.number + 1..blocks.len() {
         if last == before {
             return standing;
         }
-        let block = blocks[number];
+        let block = &mut blocks[number];
         let (some, behind) = rest.split_at(block.count);
-        last = block.pass(basis, last, some);
         before = block.after;
-        blocks[number].after = last;
+        last = block.pass(basis, last, some);
+        block.after = last;
         rest = behind;
     }
     extend(basis, rest, blocks, last)
@@ -210,11 +211,12 @@ pub(crate) fn put_late(
         return basis.next(standing, place);
     }
     let cut = cut_at(basis, blocks, at);
-    let before = basis.after(cut.by, &own[cut.start..at]);
+    let (_, rest) = own.split_at(cut.start);
+    let before = basis.after(cut.by, &rest[..at - cut.start]);
     let (effect, _) = basis.next(before, place);
-    if cut.number < blocks.len() && blocks[cut.number].count < 2 * BLOCK {
+    if cut.number < blocks.len() && blocks[cut.number].count < FULL {
         return (effect, pass_on(basis, own, blocks, at, cut, standing));
     }
     blocks.truncate(cut.number);
-    (effect, extend(basis, &own[cut.start..], blocks, cut.by))
+    (effect, extend(basis, rest, blocks, cut.by))
 }

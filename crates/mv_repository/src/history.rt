@@ -1,7 +1,7 @@
 //! What decides one pack, lent from a repository, and whether two have the same.
 
 ghost use Rattle.std.specs.Prelude.{◌≡◌, ◌↔◌};
-ghost use Rattle.mv_repository.specs.Clauses.{IsTrue, YieldsFirstRef, as_sent, entry_at, entry_of, history_at, is_before, item_count, map, option_and_then, option_copied, option_map, sent_of, sent_status, slice_get};
+ghost use Rattle.mv_repository.specs.Clauses.{IsTrue, YieldsFirstRef, as_sent, entry_at, entry_of, history_at, item_count, map, option_and_then, option_copied, option_map, sent_of, sent_status, slice_get};
 
 use crate::LogEntry;
 use crate::entry::is_before;
@@ -61,26 +61,30 @@ fn is_same_sent(
     ensures { IsTrue result ↔ (option_and_then sent_of (option_map (entry_at one.now.log.now) mine)
         ≡ option_and_then sent_of (option_map (entry_at other.now.log.now) theirs)) }
 {
-    let Some(one) = sent_at(one.log, mine) else {
-        return sent_at(other.log, theirs).is_none();
+    let theirs = sent_at(other.log, theirs);
+    let Some((sender, stamp, message)) = sent_at(one.log, mine) else {
+        return theirs.is_none();
     };
-    let Some(other) = sent_at(other.log, theirs) else {
+    let Some((other_sender, other_stamp, other_message)) = theirs else {
         return false;
     };
-    one.0 == other.0 && one.1 == other.1 && messages_are_equal(one.2, other.2)
+    // By `&`, so that no way out between the two has to be proved.
+    (sender == other_sender) & (stamp == other_stamp) && messages_are_equal(message, other_message)
 }
 
-/// Whether the upload, the recall and the withdrawal stand before a status.
-fn stands_behind(places: &Places<'_>, place: u32) -> (bool, bool, bool)
-    ensures upload { result.0 ≡ is_before (history_at places.now).upload (entry_at places.now.log.now place) }
-    ensures recall { result.1 ≡ is_before (history_at places.now).recall (entry_at places.now.log.now place) }
-    ensures withdrawal { result.2 ≡ is_before (history_at places.now).withdrawal (entry_at places.now.log.now place) }
+/// Whether two statuses were sent alike, and stand alike behind the upload, the recall and the withdrawal.
+fn is_same_status(one: &Places<'_>, mine: u32, other: &Places<'_>, theirs: u32) -> bool
+    ensures { IsTrue result ↔ (sent_status (history_at one.now) (entry_at one.now.log.now mine)
+        ≡ sent_status (history_at other.now) (entry_at other.now.log.now theirs)) }
 {
-    (
-        is_before(places.log, places.upload, place),
-        is_before(places.log, places.recall, place),
-        is_before(places.log, places.withdrawal, place),
-    )
+    let is_uploaded = is_before(one.log, one.upload, mine);
+    let is_recalled = is_before(one.log, one.recall, mine);
+    let is_withdrawn = is_before(one.log, one.withdrawal, mine);
+    // By `&`, as above. Where two statuses differ, nothing more is compared.
+    (is_uploaded == is_before(other.log, other.upload, theirs))
+        & (is_recalled == is_before(other.log, other.recall, theirs))
+        & (is_withdrawn == is_before(other.log, other.withdrawal, theirs))
+        & is_same_sent(one, Some(mine), other, Some(theirs))
 }
 
 /// Whether two packs have the same statuses, one after another: each was sent alike, and stands alike behind the upload, the recall
@@ -89,14 +93,15 @@ fn have_same_statuses(one: &Places<'_>, other: &Places<'_>) -> bool
     ensures { IsTrue result ↔ (map (sent_status (history_at one.now)) (history_at one.now).statuses
         ≡ map (sent_status (history_at other.now)) (history_at other.now).statuses) }
 {
-    for (mine, theirs) in one.statuses.iter().zip(other.statuses) {
-        if stands_behind(one, *mine) != stands_behind(other, *theirs)
-            || !is_same_sent(one, Some(*mine), other, Some(*theirs))
-        {
+    if one.statuses.len() != other.statuses.len() {
+        return false;
+    }
+    for index in 0..one.statuses.len() {
+        if !is_same_status(one, one.statuses[index], other, other.statuses[index]) {
             return false;
         }
     }
-    one.statuses.len() == other.statuses.len()
+    true
 }
 
 /// What decides a pack: the first upload that names it, its statuses, the first recall of its batch and the first withdrawal
@@ -154,7 +159,8 @@ impl<'a> History<'a> {
     pub fn is_same(&self, other: &History<'_>) -> bool
         ensures { IsTrue result ↔ (as_sent self.now ≡ as_sent other.now) }
     {
-        let (one, other) = (&self.places, &other.places);
+        let one = &self.places;
+        let other = &other.places;
         is_same_sent(one, one.upload, other, other.upload)
             && have_same_statuses(one, other)
             && is_same_sent(one, one.recall, other, other.recall)
@@ -189,8 +195,10 @@ impl<'a> Iterator for Statuses<'a> {
     ghost remaining = { item_count (λ it. it) };
 
     fn next(&mut self) -> Option<&'a LogEntry> {
-        let (place, rest) = self.statuses.split_first()?;
-        self.statuses = rest;
-        self.log.get(*place as usize)
+        if let Some((place, rest)) = self.statuses.split_first() {
+            self.statuses = rest;
+            return self.log.get(*place as usize);
+        }
+        None
     }
 }

@@ -1,15 +1,15 @@
-//! The table of a repository's own queries: for each the parties that it reached, by its first receipt, and what was answered
-//! so far.
+//! The table of a repository's own queries: for each the parties that it reached, by its first receipt, which have not answered,
+//! and what was answered so far.
 //!
 //! It stands apart since no other table bears on it: it changes at receipts of queries and at answers alone.
 
-ghost use Rattle.std.specs.Prelude.{◌≡◌, ◌≤◌, ◌∷◌, ◌++◌, ◌<◌};
-ghost use Rattle.mv_repository.specs.Clauses.{AnEntry, IsInquiriesOf, List, OnOk, [], inquiry_after, joint_verdict, query_of, ℕ, map_spare, set_spare};
+ghost use Rattle.std.specs.Prelude.{◌≡◌, ◌∷◌, ◌++◌, ◌<◌};
+ghost use Rattle.mv_repository.specs.Clauses.{AnEntry, IsInquiriesOf, List, OnOk, [], has_party, inquiry_after, joint_verdict, query_of, ℕ, map_spare, waits_after};
 
 use crate::Joint;
 use crate::verdict::{found_active, found_explained, verdict_when};
-use indexmap::{IndexMap, IndexSet};
-use mv_link::{Item, Reached};
+use indexmap::IndexMap;
+use mv_link::{Item, PARTIES_LIMIT, PartySet, Reached};
 use mv_message::{Message, Party};
 use std::alloc::AllocError;
 
@@ -18,6 +18,8 @@ use std::alloc::AllocError;
 pub struct Inquiry {
     /// The parties that the first receipt of it names, once that has come.
     asked: Option<Reached>,
+    /// Which parties, of all that can be asked, have not answered it.
+    waiting: PartySet,
     /// Whether an answer found the pack active.
     active: bool,
     /// Whether an answer found the pack recalled, withdrawn, or to be destroyed, which explains it.
@@ -25,33 +27,25 @@ pub struct Inquiry {
 }
 
 /// What a repository knows of the queries of its own party.
+#[derive(Drop)]
 pub struct Inquiries {
     /// What is known of each query, by its number among the messages of the party.
     pub(crate) inquiries: IndexMap<u32, Inquiry>,
-    /// Which query was answered, by its number, and by which party.
-    pub(crate) replies: IndexSet<(u32, Party)>,
-}
-
-// Written here, so that the drop of a repository proves nothing of how these tables are dropped.
-impl Drop for Inquiries {
-    fn drop(self) {
-        let Self { inquiries, replies } = self;
-    }
 }
 
 impl Inquiries {
-    /// Gets room for one more query and one more answer. Refused for want of memory; either way it is known what was known.
+    /// Gets room for one more query. Refused for want of memory; either way it is known what was known.
     pub fn reserve(&mut self) -> Result<(), AllocError>
-        ensures room { OnOk result ((0 < map_spare self.new.inquiries) × (0 < set_spare self.new.replies)) }
+        ensures room { OnOk result (0 < map_spare self.new.inquiries) }
         ensures same { (party : ℕ) (log : List AnEntry) → IsInquiriesOf party log self.old
             → IsInquiriesOf party log self.new }
     {
-        self.inquiries.reserve(1).and(self.replies.reserve(1))
+        self.inquiries.reserve(1)
     }
 
     /// Notes an item from a sender, which comes last in the log of the party.
     pub fn note(&mut self, party: Party, sender: Party, item: &Item)
-        requires { (0 < map_spare self.old.inquiries) × (0 < set_spare self.old.replies) }
+        requires { 0 < map_spare self.old.inquiries }
         ensures { (log : List AnEntry) → IsInquiriesOf party log self.old
             → IsInquiriesOf party (log ++ record { sender = sender; item = item.now } ∷ []) self.new }
     {
@@ -63,15 +57,11 @@ impl Inquiries {
         };
         let unknown = Inquiry {
             asked: None,
+            waiting: PartySet::all(),
             active: false,
             explained: false,
         };
-        inquiry.or_insert(unknown).note(item);
-        if let Item::Carried { .. } = item {
-            let Ok(_) = self.replies.insert((query, sender)) else {
-                unreachable!();
-            };
-        }
+        inquiry.or_insert(unknown).note(sender, item);
     }
 
     /// The verdict on the query that was the `q`-th message of the party, by what is kept of its log. It takes no memory.
@@ -85,12 +75,7 @@ impl Inquiries {
         let Some(asked) = &inquiry.asked else {
             return Joint::NotAsked;
         };
-        let asked = asked.to_reach();
-        let parties = asked.as_slice();
-        let mut left = 0;
-        for other in parties {
-            left += u32::from(!self.replies.contains(&(q, *other)));
-        }
+        let left = asked.parties().and(inquiry.waiting).len() as u32;
         if left == 0 {
             Joint::Decided(verdict_when(inquiry.active, inquiry.explained))
         } else {
@@ -100,9 +85,10 @@ impl Inquiries {
 }
 
 impl Inquiry {
-    /// Notes an item that tells of the query: the first receipt counts, and each answer.
-    fn note(&mut self, item: &Item)
-        ensures { self.new ≡ inquiry_after item.now self.old }
+    /// Notes an item from a sender that tells of the query: the first receipt counts, and each answer.
+    fn note(&mut self, sender: Party, item: &Item)
+        ensures told { self.new ≡ record (inquiry_after item.now self.old) { waiting = self.new.waiting } }
+        ensures waiting { (other : ℕ) → other < PARTIES_LIMIT → has_party self.new.waiting other ≡ waits_after sender item.now self.old.waiting other }
     {
         match item {
             Item::Receipt { reach, .. } => {
@@ -112,6 +98,9 @@ impl Inquiry {
                 if let Message::Answer { found, .. } = message.get() {
                     self.active = self.active || found_active(found);
                     self.explained = self.explained || found_explained(found);
+                    if sender < PARTIES_LIMIT as u32 {
+                        self.waiting = self.waiting.without(sender);
+                    }
                 }
             }
         }

@@ -1,6 +1,6 @@
 //! For each batch of a product the numbers of the tracks that may be of it: what a recall has to look at.
 
-ghost use Rattle.std.specs.Prelude.{◌≡◌, ◌==◌, ◌||◌, OnErr, OnOk};
+ghost use Rattle.std.specs.Prelude.{◌≡◌, ◌==◌, ◌||◌};
 ghost use Rattle.mv_repository.specs.Clauses.{IfSome, List, list_any, listing_of, lists, option_and_then, true, ℕ, entry_at, made_batch};
 
 use crate::LogEntry;
@@ -8,7 +8,7 @@ use crate::entry::message_at;
 use indexmap::{IndexMap, IndexSet};
 use mv_message::Message;
 use mv_pack::Batch;
-use std::alloc::{AllocError, Global};
+use std::alloc::Global;
 use std::marker::Model;
 
 /// Numbers, each at most twice.
@@ -29,18 +29,14 @@ impl Model for Numbers {
 }
 
 impl Numbers {
-    /// Puts a number among the others. Where memory is refused nothing has changed.
-    fn insert(&mut self, number: u32) -> Result<(), AllocError>
-        ensures ok { OnOk result ((other : ℕ) → list_any (λ one. other == one) self.new ≡ ((other == number) || list_any (λ one. other == one) self.old)) }
-        ensures err { OnErr result (self.new ≡ self.old) }
+    /// Puts a number among the others; whether there was memory for it.
+    fn insert(&mut self, number: u32) -> bool
+        ensures { result ≡ true → (other : ℕ) → list_any (λ one. other == one) self.new ≡ ((other == number) || list_any (λ one. other == one) self.old) }
     {
         match self.ascending.as_slice().last() {
-            Some(last) if *last >= number => {
-                self.others.insert(number)?;
-            }
-            _ => self.ascending.push(number)?,
+            Some(last) if *last >= number => self.others.insert(number).is_ok(),
+            _ => self.ascending.push(number).is_ok(),
         }
-        Ok(())
     }
 }
 
@@ -69,15 +65,14 @@ impl Listing {
         let Some(Message::Upload { batch, .. }) = message_at(log, birth as usize) else {
             return;
         };
+        let Ok(numbers) = self.batches.entry(batch.copy()) else {
+            self.is_whole = false;
+            return;
+        };
         let none = Numbers {
             ascending: Vec::new(self.alloc),
             others: IndexSet::new(self.alloc),
         };
-        if let Ok(numbers) = self.batches.entry(batch.copy())
-            && let Ok(()) = numbers.or_insert(none).insert(number)
-        {
-            return;
-        }
-        self.is_whole = false;
+        self.is_whole &= numbers.or_insert(none).insert(number);
     }
 }

@@ -6,13 +6,12 @@ ghost use Rattle.mv_repository.specs.Clauses.{IfOk, OnErr, OnOk, [], answer_afte
 use crate::entry::message_at;
 use crate::history::Places;
 use crate::inquiries::Inquiries;
-use crate::shelf::Counted;
 use crate::state::held_at;
 use crate::stops::Stops;
 use crate::tables::Tables;
 use crate::verdict::{found_active, found_explained, verdict_when};
 use crate::{Effect, FromSender, Held, History, Joint, Local, LogEntry, ProductSerials};
-use indexmap::{IndexMap, IndexSet};
+use indexmap::IndexMap;
 use mv_link::Item;
 use mv_message::{Found, Message, Party, Product, Shared};
 use mv_pack::{BatchKey, Gtin, PackKey};
@@ -55,9 +54,14 @@ impl Drop for Repository {
             alloc: _,
             party: _,
             log: _,
-            tables: _,
-            inquiries: _,
+            tables,
+            inquiries,
         } = self;
+        drop(tables.masters);
+        drop(tables.shelves);
+        drop(tables.stops.recalls);
+        drop(tables.stops.withdrawals);
+        drop(inquiries.inquiries);
     }
 }
 
@@ -91,7 +95,6 @@ impl Repository {
             },
             inquiries: Inquiries {
                 inquiries: IndexMap::new(alloc),
-                replies: IndexSet::new(alloc),
             },
         }
     }
@@ -147,7 +150,10 @@ impl Repository {
         ensures { result ≡ pack_state key.now self.now.log }
     {
         let (birth, _, by) = self.kept(key);
-        held_at(self.log.as_slice(), birth?, by)
+        match birth {
+            Some(birth) => held_at(self.log.as_slice(), birth, by),
+            None => None,
+        }
     }
 
     /// What decides a pack: its first upload, its statuses, and the first recall of its batch and withdrawal of its product.
@@ -224,11 +230,12 @@ impl Repository {
     pub fn counts(&self) -> Counts
         ensures { result ≡ counts_of self.now.log }
     {
+        let (packs, active) = self.tables.count();
         Counts {
             entries: self.log.len(),
             products: self.tables.masters.len(),
-            packs: self.tables.count(Counted::Every),
-            active: self.tables.count(Counted::Active),
+            packs,
+            active,
             recalled: self.tables.stops.recalls.len(),
         }
     }
@@ -316,10 +323,10 @@ impl Repository {
         ensures err { OnErr result (self.new ≡ self.old) }
     {
         let place = self.log.len();
-        if place > u32::MAX as usize {
+        let room = self.inquiries.reserve().and(self.log.reserve(1));
+        if place > u32::MAX as usize || room.is_err() {
             return Err(AllocError);
         }
-        self.inquiries.reserve().and(self.log.reserve(1))?;
         let Ok(copy) = item.copy() else {
             return Err(AllocError);
         };

@@ -1,7 +1,7 @@
 //! What is kept of each pack of one product, by serial numbers alone. This file knows no other product.
 
 ghost use Rattle.std.specs.Prelude.{◌≡◌, ◌<◌, ◌≤◌, ◌+◌, ◌==◌, ◌++◌, ◌∷◌};
-ghost use Rattle.mv_repository.specs.Clauses.{AreShelfOf, AreSlots, AreStopsOf, IfOk, IsNamed, IsPut, IsRefreshed, IsSpot, IsUploadOf, IfSome, List, lists, made_batch, option_and_then, OnErr, OnOk, Some, Writes, [], bytes_eq, comes_first, newest_effect, entry_at, filter, get_or, is_counted, is_status_of, is_stop, kept_by, kept_in, length, list_any, no_shelf, no_slot, nothing_kept, serial_of, serials_uploaded, shelf_by, slice_get, stopped_product, stops_in, take, true, ℕ};
+ghost use Rattle.mv_repository.specs.Clauses.{AreShelfOf, AreSlots, AreStopsOf, IfOk, IsNamed, IsOfProduct, IsPut, IsRefreshed, IsSpot, IfSome, List, lists, made_batch, message_in, option_and_then, option_map_or, OnErr, OnOk, Some, Writes, [], bytes_eq, comes_first, newest_effect, entry_at, filter, get_or, is_some, is_status_of, is_stop, kept_by, kept_in, length, list_any, no_shelf, no_slot, nothing_kept, serial_of, serials_uploaded, shelf_by, slice_get, stopped_product, stops_in, take, false, true, ℕ};
 
 use crate::entry::comes_first;
 use crate::listing::Listing;
@@ -12,18 +12,10 @@ use crate::track::Track;
 use crate::{Effect, LogEntry};
 use indexmap::IndexMap;
 use mv_index::{HashIndex, hash_of};
+use mv_message::Message;
 use mv_pack::{Gtin, PackKey, Serial};
 use std::alloc::{AllocError, Global};
 use std::marker::Model;
-
-/// Which packs are counted.
-#[derive(Clone, Copy)]
-pub(crate) enum Counted {
-    /// Every one that is held.
-    Every,
-    /// Those that are held, and active.
-    Active,
-}
 
 /// Works out again the track of a number, where there is one.
 fn refresh_track(tracks: &mut Vec<Track>, newest: &Newest<'_>, gtin: &Gtin, number: usize)
@@ -136,22 +128,24 @@ impl Shelf {
         }
     }
 
-    /// How many packs of the product are counted.
-    pub fn count(&self, counted: Counted) -> usize
-        ensures { result ≡ length (filter (λ slot. is_counted counted (kept_by self.now.tracks (Some slot))) self.now.table.slots) }
+    /// How many packs of the product are held, and how many of these are active: those that stand by their uploads.
+    pub fn count(&self) -> (usize, usize)
+        ensures { result ≡ (
+          length (filter (λ slot. is_some (kept_by self.now.tracks (Some slot)).birth) self.now.table.slots),
+          length (filter (λ slot. option_map_or (λ birth. birth == (kept_by self.now.tracks (Some slot)).by) (kept_by self.now.tracks (Some slot)).birth false) self.now.table.slots),
+        ) }
     {
-        let mut count = 0;
+        let (mut held, mut active) = (0, 0);
         for slot in self.slots.as_slice() {
             let (birth, _, by) = self.kept(Some(*slot));
-            let is_counted = match counted {
-                Counted::Every => birth.is_some(),
-                Counted::Active => birth == Some(by),
-            };
-            if is_counted {
-                count += 1;
+            if let Some(birth) = birth {
+                held += 1;
+                if birth == by {
+                    active += 1;
+                }
             }
         }
-        count
+        (held, active)
     }
 
     /// Writes the slot of a pack where its serial number stands, or behind all.
@@ -196,22 +190,28 @@ impl Shelf {
         true
     }
 
-    /// Adds the newest entry, an upload; its effect where it stands. Where memory is refused nothing has changed; for more than 2^16
-    /// serial numbers there is want of memory.
-    pub fn add_upload(
+    /// Adds the newest entry, which carries an upload or a status of packs of the product; its effect where it stands. Where memory is
+    /// refused nothing has changed; for an upload of more than 2^16 serial numbers there is want of memory.
+    pub fn add(
         &mut self,
         newest: &Newest<'_>,
         gtin: &Gtin,
-        serials: &[Serial],
+        message: &Message,
     ) -> Result<Effect, AllocError>
         requires stops { AreStopsOf (take newest.now.place newest.now.log.now) newest.now.stops.now }
-        requires upload { IsUploadOf (entry_at newest.now.log.now newest.now.place).entry.item gtin.now serials.now }
+        requires message { message_in (entry_at newest.now.log.now newest.now.place).entry.item ≡ Some message.now }
+        requires product { IsOfProduct gtin.now message.now }
         requires shelf { AreShelfOf (take newest.now.place newest.now.log.now) gtin.now self.old }
         ensures ok { OnOk result (AreShelfOf newest.now.log.now gtin.now self.new) }
+        ensures few { OnOk result (length (serials_uploaded (entry_at newest.now.log.now newest.now.place).entry.item) ≤ MOST_SERIALS) }
         ensures effect { IfOk result (λ effect. effect ≡ newest_effect newest.now.log.now newest.now.place) }
-        ensures few { OnOk result (length serials.now ≤ MOST_SERIALS) }
         ensures err { OnErr result (AreShelfOf (take newest.now.place newest.now.log.now) gtin.now self.new) }
     {
+        let serials = match message {
+            Message::Upload { serials, .. } => serials.as_slice(),
+            Message::Status { key, .. } => return self.add_status(newest, key),
+            _ => unreachable!(),
+        };
         if serials.len() > MOST_SERIALS {
             return Err(AllocError);
         }
@@ -251,12 +251,7 @@ impl Shelf {
 
     /// Adds the newest entry, a status of a pack of the product; its effect where it stands. Where memory is refused nothing
     /// has changed; beyond 2^32 packs with a status there is want of memory.
-    pub fn add_status(
-        &mut self,
-        alloc: Global,
-        newest: &Newest<'_>,
-        pack: &PackKey,
-    ) -> Result<Effect, AllocError>
+    fn add_status(&mut self, newest: &Newest<'_>, pack: &PackKey) -> Result<Effect, AllocError>
         requires stops { AreStopsOf (take newest.now.place newest.now.log.now) newest.now.stops.now }
         requires own { is_status_of pack.now (entry_at newest.now.log.now newest.now.place).entry.item ≡ true }
         requires shelf { AreShelfOf (take newest.now.place newest.now.log.now) pack.now.gtin self.old }
@@ -271,9 +266,9 @@ impl Shelf {
         let (birth, _, by) = self.kept(spot.slot);
         let mut track = Track {
             birth,
-            statuses: Vec::new(alloc),
+            statuses: Vec::new(self.listing.alloc),
             by,
-            blocks: Vec::new(alloc),
+            blocks: Vec::new(self.listing.alloc),
         };
         let effect = track.add_status(newest, pack)?;
         let number = self.push(newest.log, &pack.serial, track)?;

@@ -82,8 +82,10 @@ impl<'a> Iterator for ProductSerials<'a> {
     ghost remaining = { item_count (λ it. it) };
 
     fn next(&mut self) -> Option<&'a Serial> {
-        let (slot, rest) = self.slots.split_first()?;
-        self.slots = rest;
-        Some(serial_of(self.log, self.names, *slot))
+        if let Some((slot, rest)) = self.slots.split_first() {
+            self.slots = rest;
+            return Some(serial_of(self.log, self.names, *slot));
+        }
+        None
     }
 }

@@ -8,7 +8,7 @@ use crate::entry::{is_before, message_at, sender_at};
 use crate::held::REVERT_SECONDS;
 use crate::stops::{BatchStanding, Stops};
 use crate::{Change, Effect, Held, LogEntry};
-use mv_message::{Message, Party, Standing};
+use mv_message::{Message, Party, Standing, Text};
 use mv_pack::{BatchKey, Expiry, Gtin, Moment};
 
 /// Whether a pack stands active.
@@ -28,37 +28,39 @@ pub(crate) fn standing_by(log: &[LogEntry], by: u32) -> Standing
     }
 }
 
-/// What a revert does to a pack that stands by an entry.
+/// What a revert does to a pack that stands by an entry; it has a sender, a user and a moment.
 fn revert_effect(
     log: &[LogEntry],
     by: u32,
     expiry: Expiry,
     batch: BatchStanding,
-    sender: Party,
-    reverter: &str,
-    moment: Moment,
+    revert: (Party, &Text, Moment),
 ) -> Effect
-    ensures { result ≡ revert_effect expiry batch (change_in (entry_at log.now by)) sender reverter.now moment }
+    ensures { result ≡ revert_effect expiry batch (change_in (entry_at log.now by)) revert.entry.0 revert.entry.1.now revert.entry.2 }
 {
-    let Some(Message::Status { user, at, .. }) = message_at(log, by as usize) else {
-        return Effect::OtherUser;
-    };
-    let changed_at = at.seconds();
-    if sender_at(log, by as usize) != sender || user.as_str() != reverter {
-        Effect::OtherUser
-    } else if moment.seconds() < changed_at {
-        Effect::TooEarly
-    } else if changed_at + REVERT_SECONDS < moment.seconds() {
-        Effect::TooLate
-    } else if expiry.expired_at(moment) {
-        Effect::Expired
-    } else if batch.recalled {
-        Effect::Recalled
-    } else if batch.withdrawn {
-        Effect::Withdrawn
-    } else {
-        Effect::Done
+    let by = by as usize;
+    let (sender, reverter, moment) = revert;
+    if let Some(Message::Status { user, at, .. }) = message_at(log, by)
+        && sender_at(log, by) == sender
+        && *user == *reverter
+    {
+        let changed_at = at.seconds();
+        let reverted_at = moment.seconds();
+        return if reverted_at < changed_at {
+            Effect::TooEarly
+        } else if changed_at + REVERT_SECONDS < reverted_at {
+            Effect::TooLate
+        } else if expiry.expired_at(moment) {
+            Effect::Expired
+        } else if batch.recalled {
+            Effect::Recalled
+        } else if batch.withdrawn {
+            Effect::Withdrawn
+        } else {
+            Effect::Done
+        };
     }
+    Effect::OtherUser
 }
 
 /// The newest entry of a log, and the first recalls and withdrawals by which it is worked out.
@@ -93,32 +95,31 @@ impl Basis<'_> {
         ensures { result ≡ effect_in self.now by place }
     {
         let log = self.log;
-        if !is_before(log, Some(self.birth), place) {
-            return Effect::Unknown;
+        let birth = self.birth;
+        if is_before(log, Some(birth), place)
+            && let Some(Message::Upload { batch, expiry, .. }) = message_at(log, birth as usize)
+        {
+            let Some(Message::Status { to, user, at, .. }) = message_at(log, place as usize) else {
+                return Effect::Noted;
+            };
+            return match (is_active(*to), standing_by(log, by)) {
+                (false, Standing::Active) => Effect::Done,
+                (false, _) => Effect::NotActive,
+                (true, Standing::Active) => Effect::AlreadyActive,
+                (true, Standing::Destruction | Standing::Stolen | Standing::Repackaged) =>
+                    Effect::Fixed,
+                (true, _) => {
+                    let key = BatchKey {
+                        gtin: *self.gtin,
+                        batch: batch.copy(),
+                    };
+                    let stands = self.stops.standing_at(log, &key, place);
+                    let revert = (sender_at(log, place as usize), user, *at);
+                    revert_effect(log, by, *expiry, stands, revert)
+                }
+            };
         }
-        let Some(Message::Upload { batch, expiry, .. }) = message_at(log, self.birth as usize)
-        else {
-            return Effect::Unknown;
-        };
-        let Some(Message::Status { to, user, at, .. }) = message_at(log, place as usize) else {
-            return Effect::Noted;
-        };
-        match (is_active(*to), standing_by(log, by)) {
-            (false, Standing::Active) => Effect::Done,
-            (false, _) => Effect::NotActive,
-            (true, Standing::Active) => Effect::AlreadyActive,
-            (true, Standing::Destruction | Standing::Stolen | Standing::Repackaged) =>
-                Effect::Fixed,
-            (true, _) => {
-                let key = BatchKey {
-                    gtin: *self.gtin,
-                    batch: batch.copy(),
-                };
-                let stands = self.stops.standing_at(log, &key, place);
-                let sender = sender_at(log, place as usize);
-                revert_effect(log, by, *expiry, stands, sender, user.as_str(), *at)
-            }
-        }
+        Effect::Unknown
     }
 
     /// What the status at a place does to the pack, where it stands by an entry: its effect, and the place of the entry by
@@ -151,32 +152,35 @@ impl Basis<'_> {
 pub(crate) fn held_at(log: &[LogEntry], birth: u32, by: u32) -> Option<Held>
     ensures { result ≡ option_map held_of (known_at (entry_at log.now birth) (entry_at log.now by)) }
 {
-    let change = match message_at(log, by as usize) {
-        Some(Message::Status { at, .. }) => Some(Change {
-            by: sender_at(log, by as usize),
-            at: *at,
-            entry: by as usize,
-        }),
-        _ => None,
-    };
-    match message_at(log, birth as usize) {
-        Some(
-            Message::Upload {
-                batch,
-                expiry,
-                national,
-                ..
-            },
-        ) => Some(Held {
+    if let Some(
+        Message::Upload {
+            batch,
+            expiry,
+            national,
+            ..
+        },
+    ) = message_at(log, birth as usize)
+    {
+        let national = match national {
+            Some(national) => Some(national.copy()),
+            None => None,
+        };
+        let entry = by as usize;
+        let change = match message_at(log, entry) {
+            Some(Message::Status { at, .. }) => Some(Change {
+                by: sender_at(log, entry),
+                at: *at,
+                entry,
+            }),
+            _ => None,
+        };
+        return Some(Held {
             batch: batch.copy(),
             expiry: *expiry,
-            national: match national {
-                Some(national) => Some(national.copy()),
-                None => None,
-            },
+            national,
             standing: standing_by(log, by),
             change,
-        }),
-        _ => None,
+        });
     }
+    None
 }

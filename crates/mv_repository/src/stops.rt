@@ -40,21 +40,12 @@ impl<'a> Stop<'a> {
 }
 
 /// The first recall of each batch and the first withdrawal of each product, by their places in the log.
+#[derive(Drop)]
 pub(crate) struct Stops {
     /// The place of the first recall of each batch, in the order in which the first of each came.
     pub recalls: IndexMap<BatchKey, u32>,
     /// The place of the first withdrawal of each product, in the same order.
     pub withdrawals: IndexMap<Gtin, u32>,
-}
-
-// Written here, so that the drop of a repository proves nothing of how these tables are dropped.
-impl Drop for Stops {
-    fn drop(self) {
-        let Self {
-            recalls,
-            withdrawals,
-        } = self;
-    }
 }
 
 impl Stops {

@@ -1,16 +1,16 @@
 //! The tables that a repository keeps of its log, and what one more entry does to them.
 
 ghost use Rattle.std.specs.Prelude.{◌≡◌, ◌+◌};
-ghost use Rattle.mv_repository.specs.Clauses.{AnEntry, AreTablesOf, IfOk, List, OnErr, OnOk, distinct_count, entry_at, filter, is_counted, is_same_pack, is_stop, length, newest_effect, take, kept_of, life_of, true, uploaded_packs};
+ghost use Rattle.mv_repository.specs.Clauses.{AnEntry, AreTablesOf, IfOk, List, OnErr, OnOk, counts_of, entry_at, is_stop, length, newest_effect, take, true};
 
 use crate::entry::{comes_first, message_at, passes};
-use crate::shelf::{Counted, Shelf};
+use crate::shelf::Shelf;
 use crate::state::Newest;
 use crate::stops::{Stop, Stops};
 use crate::{Effect, LogEntry};
 use indexmap::IndexMap;
 use mv_message::Message;
-use mv_pack::Gtin;
+use mv_pack::{Gtin, PackKey};
 use std::alloc::{AllocError, Global};
 
 /// What is found in a log without a search.
@@ -27,16 +27,17 @@ pub struct Tables {
 }
 
 impl Tables {
-    /// How many packs are counted, each once.
-    pub fn count(&self, counted: Counted) -> usize
-        ensures { (log : List AnEntry) → AreTablesOf log self.now
-            → result ≡ distinct_count is_same_pack (filter (λ pack. is_counted counted (kept_of (life_of pack log))) (uploaded_packs log)) }
+    /// How many packs are held, and how many of these are active, each counted once.
+    pub fn count(&self) -> (usize, usize)
+        ensures { (log : List AnEntry) → AreTablesOf log self.now → result ≡ ((counts_of log).packs, (counts_of log).active) }
     {
-        let mut count = 0usize;
+        let (mut held, mut active) = (0usize, 0usize);
         for (_, shelf) in self.shelves.iter() {
-            count = count.saturating_add(shelf.count(counted));
+            let counts = shelf.count();
+            held = held.saturating_add(counts.0);
+            active = active.saturating_add(counts.1);
         }
-        count
+        (held, active)
     }
 
     /// Adds the newest entry of a log, and gives its effect where it stands. Where memory is refused the tables are still
@@ -67,19 +68,16 @@ impl Tables {
                     Err(_) => Err(AllocError),
                 }
             }
-            Message::Upload { gtin, serials, .. } => {
+            Message::Upload { gtin, .. }
+            | Message::Status {
+                key: PackKey { gtin, .. },
+                ..
+            } => {
                 let Ok(shelf) = self.shelves.entry(*gtin) else {
                     return Err(AllocError);
                 };
                 let shelf = shelf.or_insert(Shelf::new(self.alloc));
-                shelf.add_upload(&newest, gtin, serials.as_slice())
-            }
-            Message::Status { key, .. } => {
-                let Ok(shelf) = self.shelves.entry(key.gtin) else {
-                    return Err(AllocError);
-                };
-                let shelf = shelf.or_insert(Shelf::new(self.alloc));
-                shelf.add_status(self.alloc, &newest, key)
+                shelf.add(&newest, gtin, message)
             }
             Message::Recall { key, .. } => self.add_stop(log, &Stop::OfBatch(key), place),
             Message::Withdraw { gtin, .. } => self.add_stop(log, &Stop::OfProduct(gtin), place),

@@ -5,7 +5,7 @@ use Rattle.mv_index.specs.Hashes.{short_hash}
 use Rattle.mv_pack.specs.Code.{code_pieces}
 use Rattle.mv_repository.specs.declared.listing.Listing.{Listing}
 use Rattle.mv_repository.specs.declared.slots.Spot.{Spot}
-use Rattle.mv_repository.specs.Words.{ℕ, List, [], get_or, Bool, true, false, Option, Some, None, IfSome, bytes_eq, keys_of, lookup, option_and_then, option_map_or, is_some, not, Counted, Active, Every, Slot, Made, Own, list_any, Upload, Item, Carried, LogEntry, insert_key, pack_key, unwrap_or, Stop, OfBatch, OfProduct, length, map, AllByRecursion, IsDistinct}
+use Rattle.mv_repository.specs.Words.{ℕ, List, [], get_or, Bool, true, false, Option, Some, None, IfSome, bytes_eq, keys_of, lookup, option_and_then, option_map_or, not, Message, Slot, Status, Made, Own, list_any, Upload, Item, Carried, LogEntry, insert_key, pack_key, unwrap_or, Stop, OfBatch, OfProduct, length, map, AllByRecursion, IsDistinct}
 use Rattle.mv_repository.specs.inside.Track.{comes_first, made_batch, Kept, Life, life_of, IsKept, IsTrack}
 use Rattle.mv_repository.specs.Bearing.{FirstStops, entry_at}
 use Rattle.mv_repository.specs.Repository.{serials_of}
@@ -111,10 +111,11 @@ shelf_by log parts = record { slots = keyed log parts.table.names parts.table.sl
 abbrev pub kept_in : ShelfTable → List ℕ → Kept
 kept_in shelf serial = kept_by shelf.tracks (lookup (bytes_eq serial) shelf.slots)
 
--- an item is an upload of these packs of a product
-abbrev pub IsUploadOf : Item → List ℕ → List (List ℕ) → Type 0
-IsUploadOf (Carried k stamp (Upload named batch expiry national packs)) gtin serials = (named ≡ gtin) × (packs ≡ serials)
-IsUploadOf _ gtin serials = ⊥
+-- a message uploads packs of a product, or changes one of them
+abbrev pub IsOfProduct : List ℕ → Message → Type 0
+IsOfProduct gtin (Upload named batch expiry national serials) = named ≡ gtin
+IsOfProduct gtin (Status key to user at) = key.gtin ≡ gtin
+IsOfProduct gtin _ = ⊥
 
 -- a number may be of a batch: any may, where they are not all
 abbrev pub lists : ListingTable → List ℕ → ℕ → Bool
@@ -175,8 +176,3 @@ pub record IsPut (log : List LogEntry) (stops : FirstStops) (gtin : List ℕ) (p
 abbrev pub IsRefreshed : List LogEntry → FirstStops → List ℕ → Bool → Kept → Kept → Type 0
 IsRefreshed log stops gtin true old new = IsAgain log stops gtin old.birth old new
 IsRefreshed log stops gtin false old new = new ≡ old
-
--- a pack that is kept so is counted: every one that is held, or of these each that is active, which stands by its upload
-abbrev pub is_counted : Counted → Kept → Bool
-is_counted Every kept = is_some kept.birth
-is_counted Active kept = option_map_or (λ birth. birth == kept.by) kept.birth false

@@ -1,6 +1,6 @@
 -- What a repository keeps beside its log: the tables of its products and packs, and what it knows of its own queries.
-use Rattle.std.specs.Prelude.{◌≡◌, ◌≤◌, ◌*◌, ◌&&◌, ◌||◌, ◌==◌, if◌then◌else◌, unwrap_or}
-use Rattle.mv_repository.specs.Words.{ℕ, Bool, false, nat_eq, length, filter, last_or, bytes_eq, List, Option, Some, None, list_any, option_or, lookup, Master, Answer, Item, Receipt, Carried, LogEntry, option_map}
+use Rattle.std.specs.Prelude.{◌≡◌, ◌<◌, ◌≤◌, ◌*◌, ◌&&◌, ◌||◌, ◌==◌, if◌then◌else◌}
+use Rattle.mv_repository.specs.Words.{ℕ, Bool, false, true, nat_eq, not, length, filter, last_or, bytes_eq, List, Option, Some, None, option_or, lookup, Master, Answer, Item, PARTIES_LIMIT, PartySet, Receipt, Carried, LogEntry, option_and_then, option_map, option_map_or, has_party}
 use Rattle.mv_repository.specs.declared.inquiries.Inquiries.{Inquiries}
 use Rattle.mv_repository.specs.declared.inquiries.Inquiry.{Inquiry}
 use Rattle.mv_repository.specs.declared.tables.Tables.{Tables}
@@ -29,10 +29,6 @@ query_of party sender (Receipt k reach query) = if query && (sender == party) th
 query_of party sender (Carried k stamp (Answer asker q key found)) = if asker == party then Some q else None
 query_of party sender _ = None
 
--- it is kept that a party has answered a query
-abbrev pub has_reply : Inquiries → ℕ → ℕ → Bool
-has_reply known q other = list_any (λ reply. (q == reply.0) && (other == reply.1)) known.replies.keys
-
 -- a query once an item tells of it: the first receipt names the parties that were asked, and each answer what it found
 abbrev pub inquiry_after : Item → Inquiry → Inquiry
 inquiry_after (Receipt k reach query) inquiry = record inquiry { asked = option_or inquiry.asked (Some reach) }
@@ -40,11 +36,18 @@ inquiry_after (Carried k stamp (Answer asker q key found)) inquiry =
     record inquiry { active = inquiry.active || found_active found; explained = inquiry.explained || found_explained found }
 inquiry_after _ inquiry = inquiry
 
--- what a log says of a party's query
-abbrev pub inquiry_of : ℕ → List LogEntry → ℕ → Inquiry
-inquiry_of party log q = record { asked = asked_parties party log q; active = has_finding found_active party log q; explained = has_finding found_explained party log q }
+-- a party has not answered a query once an item from a sender tells of it, where it is kept which had not
+abbrev pub waits_after : ℕ → Item → PartySet → ℕ → Bool
+waits_after sender (Carried k stamp (Answer asker q key found)) waiting other = has_party waiting other && not (other == sender)
+waits_after sender _ waiting other = has_party waiting other
 
--- what is kept is what a log says of a party's queries, for each query and each other party; of a query that is not kept it says nothing
+-- what is kept of a party's query is what a log says; of one that is not kept it says nothing
+pub record IsInquiryOf (party : ℕ) (log : List LogEntry) (q : ℕ) (inquiry : Option Inquiry) : Type 0 where
+  pub asked : option_and_then (λ known. known.asked) inquiry ≡ asked_parties party log q
+  pub active : option_map_or (λ known. known.active) inquiry false ≡ has_finding found_active party log q
+  pub explained : option_map_or (λ known. known.explained) inquiry false ≡ has_finding found_explained party log q
+  pub waiting : (other : ℕ) → other < PARTIES_LIMIT → option_map_or (λ known. has_party known.waiting other) inquiry true ≡ not (has_answered party log q other)
+
+-- so is what is kept of each query
 pub record IsInquiriesOf (party : ℕ) (log : List LogEntry) (known : Inquiries) : Type 0 where
-  pub inquiries : (q : ℕ) → unwrap_or (lookup (nat_eq q) known.inquiries.entries) (record { asked = None; active = false; explained = false }) ≡ inquiry_of party log q
-  pub replies : (q other : ℕ) → has_reply known q other ≡ has_answered party log q other
+  pub each : (q : ℕ) → IsInquiryOf party log q (lookup (nat_eq q) known.inquiries.entries)

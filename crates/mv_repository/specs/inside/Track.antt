@@ -2,13 +2,12 @@
 -- each of its statuses does, the entry by which it stands behind them, and what many of them do that stand one behind the other;
 -- and its history.
 use Rattle.std.specs.Prelude.{◌≡◌, if◌then◌else◌, ◌≤◌, ◌+◌, ◌%◌, ◌∷◌, ◌++◌}
-use Rattle.mv_repository.specs.Words.{ℕ, List, find, Bool, true, Option, Some, bytes_eq, flat_map, lookup, keys_of, option_map, option_map_or, insert_all, Item, LogEntry, Stop, Stops, OfBatch, OfProduct, is_same_batch, [], take, None, option_and_then, BatchKey, Standing, Message, Status, Effect, BatchStanding, batch_key, ⊤, length, drop, AllByRecursion, PARTIES_LIMIT, PartySet, map, fold, PackKey, Block, IfSome, slice_get}
+use Rattle.mv_repository.specs.Words.{ℕ, List, find, Bool, true, Option, Some, bytes_eq, flat_map, lookup, keys_of, option_map, option_map_or, insert_all, Item, LogEntry, Stop, Stops, OfBatch, OfProduct, is_same_batch, [], take, None, option_and_then, BatchKey, Standing, Message, Status, Effect, BatchStanding, batch_key, ⊤, length, drop, AllByRecursion, PARTIES_LIMIT, PartySet, map, fold, PackKey, Block, IfSome, slice_get, has_party}
 use Rattle.mv_repository.specs.Order.{Placed, passes, ordered, stands_before}
 use Rattle.mv_repository.specs.Pack.{is_recall_of, is_withdrawal_of, effect_of, KnownPack, KnownChange, is_active, is_done, change_effect}
 use Rattle.mv_repository.specs.Repository.{recalled_in}
 use Rattle.mv_repository.specs.Bearing.{FirstStops, entry_at, first_stops, first_upload, message_in, pack_made_by, standing_at, statuses_of, withdrawn_in}
 use Rattle.mv_repository.specs.declared.state.Basis.{Basis}
-use Rattle.mv_link.specs.PartySets.{has_party}
 use Rattle.mv_repository.specs.declared.blocks.Cut.{Cut}
 use Rattle.mv_repository.specs.declared.history.Places.{Places}
 use Rattle.mv_repository.specs.Agreement.{PackHistory}

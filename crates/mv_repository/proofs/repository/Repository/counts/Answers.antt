@@ -1,5 +1,5 @@
 -- Each table has the things of its kind once.
-use Rattle.mv_repository.proofs.Lemmas.{◌≡◌, ◌∙◌, rules, length, active-all, held-all, count-products, count-recalled}
+use Rattle.mv_repository.proofs.Lemmas.{◌≡◌, ◌∙◌, rules, length, count-products, count-recalled}
 use Rattle.mv_repository.proofs.repository.Repository.counts.Goals as goal
 
 pub returns : goal.returns
@@ -7,7 +7,6 @@ returns c = let log = c.self.inside.log.items in
     let tables = c.self.invariant.0 in
     let entries : c.len.result ≡ length log = search rules in
     let products = c.len-2.ensures.len ∙ count-products log c.self.inside.tables.masters.entries c.len-2.ensures.unique tables.masters in
-    let packs = c.count.ensures log tables ∙ held-all log in
-    let active = c.count-2.ensures log tables ∙ active-all log in
+    let counts = c.count-packs.ensures log tables in
     let recalled = c.len-3.ensures.len ∙ count-recalled log c.self.inside.tables.stops c.len-3.ensures.unique tables.stops in
-    rw (← c.self.view_is) (λ i. record { entries = entries i; products = products i; packs = packs i; active = active i; recalled = recalled i })
+    rw (← c.self.view_is) (λ i. record { entries = entries i; products = products i; packs = (counts i).0; active = (counts i).1; recalled = recalled i })

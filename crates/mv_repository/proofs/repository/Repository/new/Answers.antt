@@ -1,5 +1,5 @@
 -- No shelf is kept, and nothing is known of a query.
-use Rattle.mv_repository.proofs.Lemmas.{[], AreShelfOf, ap, arith, no-shelf-yet, shelf_of, subst, sym}
+use Rattle.mv_repository.proofs.Lemmas.{[], AreShelfOf, ap, arith, no-shelf-yet, refl, shelf_of, subst, sym}
 use Rattle.mv_repository.proofs.repository.Repository.new.Goals as goal
 
 pub invariant_of-result : goal.invariant_of-result
@@ -13,5 +13,5 @@ invariant_of-result c = rw c.new.ensures.items (
     shelves = λ gtin. subst (AreShelfOf [] gtin) (sym (ap (shelf_of gtin) c.new-5.ensures.empty)) (no-shelf-yet gtin);
     few = (omega arith, omega arith);
   },
-  record { inquiries = λ q. rw c.new-6.ensures.empty; replies = λ q other. rw c.new-7.ensures.empty },
+  record { each = λ q. rw c.new-6.ensures.empty (record { asked = refl; active = refl; explained = refl; waiting = λ other lt. refl }) },
 )

@@ -1,8 +1,8 @@
 -- The tracks that may be stopped are worked out, and the entry bears on no other pack.
-use Rattle.mv_repository.proofs.Lemmas.{◌∙◌, AreShelfOf, Kept, List, ShelfTable, arith, common_steps, get_or, keyed, may_stop, no_entry, nothing_kept, shelf-again, shelf-seen, stop-form, stop-passes, stopped_product, stops_in, ℕ, IsRefreshed, SlotTable}
+use Rattle.mv_repository.proofs.Lemmas.{◌∙◌, AreShelfOf, Kept, List, ShelfTable, arith, common_steps, get_or, keyed, may_stop, no_entry, nothing_kept, refreshed_more, shelf-again, shelf-seen, stop-form, stop-passes, stopped_product, stops_in, ℕ, IsRefreshed, SlotTable}
 use Rattle.mv_repository.proofs.Lemmas.{false, listing_of, rules, true}
 use Rattle.std.proofs.lemmas.List.Folds.{list_any-append}
-use Rattle.mv_repository.proofs.Words.{list_any, ◌≡◌, ◌+◌, ◌==◌, ◌||◌, Bool, FirstStops, LogEntry, nat_lt, nat_tests}
+use Rattle.mv_repository.proofs.Words.{list_any, ◌≡◌, ◌+◌, ◌==◌, ◌||◌, nat_lt, nat_tests}
 use Rattle.mv_repository.proofs.shelf.Shelf.refresh.Goals.{After-self, in_default-via-in-OfProduct-1, in_default-via-in-OfBatch+else-self}
 use Rattle.mv_repository.proofs.shelf.Shelf.refresh.Goals as goal
 
@@ -22,10 +22,6 @@ module _ (c : After-self) where
       let passes = stop-passes c.args.newest.now.log.now c.args.newest.now.place c.args.newest.now.last c.args.stop.now c.requires.stop old longer.1 in
       record { slots = longer.0; shelf = shelf-again c.args.newest.now.log.now c.args.newest.now.place c.args.newest.now.stops.now (stopped_product c.args.stop.now) c.args.newest.now.last c.requires.stops bears (may_stop old.listing c.args.stop.now) old tracks again passes longer.1 }
 
--- a track that was worked out again may be so once more
-refreshed-more : (log : List LogEntry) (stops : FirstStops) (gtin : List ℕ) (b c d : Bool) (was mid now : Kept) → IsRefreshed log stops gtin b was mid → IsRefreshed log stops gtin c mid now → d ≡ (b || c) → IsRefreshed log stops gtin d was now
-refreshed-more log stops gtin b c d was mid now first then e = grind (arith, nat_tests)
-
 pub returns-in_default : goal.returns-in_default
 returns-in_default c = let at = (goal.at.returns-in_default c).After-self in
     let none : (number : ℕ) → may_stop (old at).listing c.args.stop.now number ≡ false = λ number. search rules in
@@ -35,7 +31,7 @@ pub returns : goal.returns
 returns c = let at = (goal.at.returns c).After-self in
     let some : (number : ℕ) → may_stop (old at).listing c.args.stop.now number ≡ (list_any (λ one. number == one) c.as_slice.result.now || list_any (λ one. number == one) c.as_slice-2.result.now) =
     λ number. search (rules, list_any-append (λ one. number == one) c.numbers.inside.ascending.items c.numbers.inside.others.keys) in
-    refreshed at c.refresh_tracks-2.new.tracks.items _ (λ number. grind (arith, refreshed-more _ _ _ _ _ _ _ _ _ (c.refresh_tracks.ensures.tracks number) (c.refresh_tracks-2.ensures.tracks number) (some number), c.gtin-gtin.ensures))
+    refreshed at c.refresh_tracks-2.new.tracks.items _ (λ number. grind (arith, refreshed_more _ _ _ _ _ _ _ _ _ (c.refresh_tracks.ensures.tracks number) (c.refresh_tracks-2.ensures.tracks number) (some number), c.gtin-gtin.ensures))
 
 pub returns-2 : goal.returns-2
 returns-2 c = let at = (goal.at.returns-2 c).After-self in
@@ -46,4 +42,4 @@ lt-more : (a b : ℕ) → nat_lt a (b + 1) ≡ (nat_lt a b || (a == b))
 lt-more a b = grind (arith, nat_tests)
 
 pub loop-number-preserved : goal.loop-number-preserved
-loop-number-preserved c = record { count = c.refresh_track.ensures.count ∙ c.loop-number.invariant.count; tracks = λ other. refreshed-more _ _ _ _ _ _ _ _ _ (c.loop-number.invariant.tracks other) (c.refresh_track.ensures.tracks other) (lt-more other c.loop-number.number) }
+loop-number-preserved c = record { count = c.refresh_track.ensures.count ∙ c.loop-number.invariant.count; tracks = λ other. refreshed_more _ _ _ _ _ _ _ _ _ (c.loop-number.invariant.tracks other) (c.refresh_track.ensures.tracks other) (lt-more other c.loop-number.number) }

@@ -1,9 +1,10 @@
-use Rattle.mv_repository.proofs.Lemmas.{List, ℕ, ap, arith, ShelfParts, counted-whole, slots_in}
+-- Found at once where no other search comes first; then no shelf is left.
+use Rattle.mv_repository.proofs.Lemmas.{arith, common_steps, counts-whole}
 use Rattle.mv_repository.proofs.tables.Tables.count.Goals as goal
 
--- no shelf is left
+pub loop-shelf-preserved : goal.loop-shelf-preserved
+loop-shelf-preserved c = grind (arith, common_steps)
+
 pub returns : goal.returns
-returns c log are = let left = ap (λ (l : List (List ℕ × ShelfParts)). slots_in c.args.counted l) c.in-None.ensures.steps.0 in
-    let all = c.loop-shelf.invariant.all in
-    let fits = c.loop-shelf.invariant.fits in
-    counted-whole log c.args.counted c.args.self.now c.loop-shelf.count are c.iter-shelf-items.ensures.unique (omega (arith, left, all, fits))
+returns c log are = let l = c.loop-shelf in
+    counts-whole log c.args.self.now l.held l.active l.shelf-iterator are c.iter-shelf-items.ensures.unique c.in-None.ensures.steps.0 l.invariant.held l.invariant.active

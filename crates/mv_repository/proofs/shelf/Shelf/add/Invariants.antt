@@ -1,5 +1,5 @@
 use Rattle.mv_repository.proofs.Lemmas.{◌≡◌, ◌≤◌, ◌+◌, AreSlots, bytes_eq, fold, insert_key, keys_of, length, serials_of, shelf_by, take, entry_at, ArePacksOf, new_count}
-use Rattle.mv_repository.proofs.shelf.Shelf.add_upload.Given as goal
+use Rattle.mv_repository.proofs.shelf.Shelf.add.Given as goal
 
 -- the packs so far have the upload
 abbrev pub invariant-loop-index : goal.invariant-loop-index

@@ -5,9 +5,9 @@
 ghost use Rattle.std.specs.Prelude.{◌≡◌, ◌≤◌, ◌<◌, ◌+◌};
 ghost use Rattle.mv_repository.specs.Clauses.{AreBlocks, IsCut, IsFront, IsSummary, List, TheBlock, effect_in, entry_at, fold, get_or, length, next_in, take, without, ℕ};
 
+use crate::Effect;
 use crate::entry::sender_at;
 use crate::state::{Basis, is_active, standing_by};
-use crate::Effect;
 use mv_link::{PARTIES_LIMIT, PartySet};
 
 /// A block is made of at least so many statuses.

@@ -115,8 +115,7 @@ module _ (log : List LogEntry) where
     same-counted : (tables : Tables) (q : PackKey) (o : Option Kept) → AreTablesOf log tables
         → unwrap_or o nothing_kept ≡ kept_in (shelf_by log (shelf_of q.gtin tables.shelves.entries)) q.serial
         → is_some (option_filter (is_counted any) o) ≡ is_counted any (kept_of (life_of q log))
-    same-counted tables q o are e = let kept = ((are.shelves q.gtin).shelf.packs q.serial).kept.bare in
-        grind (arith, nat_tests, kept)
+    same-counted tables q o are e = grind (arith, nat_tests, ((are.shelves q.gtin).shelf.packs q.serial).kept.bare)
 
     -- the packs that are counted shelf by shelf are these, each once, where these are those that a log counts
     all-counted : (tables : Tables) (xs : List PackKey) → AreTablesOf log tables → IsDistinct bytes_eq (keys_of tables.shelves.entries)
@@ -180,14 +179,14 @@ module _ (log : List LogEntry) (pack : PackKey) where
   track-active = grind (arith, nat_tests, active-birth, find-stand, find-true (λ placed. is_upload_of pack placed.entry.item) (ordered log), known-grown, ordered-ascends, ordered-stand)
 
   active-member : is_member is_same_pack (filter (λ one. is_held_active (pack_state one log)) (uploaded_packs log)) pack ≡ is_counted false (kept_of (life_of pack log))
-  active-member = let test : PackKey → Bool = λ one. is_held_active (pack_state one log) in
-      is_member-filter pack-equiv test pack (λ y e. ap test (same_pack pack y e)) (uploaded_packs log) ∙ grind (arith, nat_tests, track-active, uploaded-found log pack)
+  active-member = is_member-filter pack-equiv (λ one. is_held_active (pack_state one log)) pack (λ y e i. is_held_active (pack_state (same_pack pack y e i) log)) (uploaded_packs log)
+      ∙ grind (arith, nat_tests, track-active, uploaded-found log pack)
 
--- the packs of a log by its tables, where no shelf is left; there are no more than 64 bits hold
+-- the packs that a log has by its tables, where no shelf is left: no more than 64 bits hold
 pub counts-whole : (log : List LogEntry) (tables : Tables) (held active : ℕ) (left : List (List ℕ × ShelfParts)) → AreTablesOf log tables → IsDistinct bytes_eq (keys_of tables.shelves.entries)
     → left ≡ [] → AreCounted true held left tables.shelves.entries → AreCounted false active left tables.shelves.entries → ◌≡◌ {A = ℕ × ℕ} (held, active) ((counts_of log).packs, (counts_of log).active)
-counts-whole log tables held active left are d none h a = let every = all-counted log true tables (uploaded_packs log) are d (λ q. sym (uploaded-found log q)) in
+counts-whole log tables held active left are d none h a = let all = all-counted log true tables (uploaded_packs log) are d (λ q. sym (uploaded-found log q)) in
     let up = all-counted log false tables (filter (λ pack. is_held_active (pack_state pack log)) (uploaded_packs log)) are d (active-member log) in
-    let packs : held ≡ (counts_of log).packs = grind (arith, nat_tests, are.few.0, are.few.1, every, distinct_count-le) in
+    let packs : held ≡ (counts_of log).packs = grind (arith, nat_tests, are.few.0, are.few.1, all, distinct_count-le) in
     let stand : active ≡ (counts_of log).active = grind (arith, nat_tests, are.few.0, are.few.1, up, count_by-le-length, distinct_count-le, length-filter) in
     λ i. (packs i, stand i)

@@ -130,10 +130,8 @@ impl Shelf {
 
     /// How many packs of the product are held, and how many of these are active: those that stand by their uploads.
     pub fn count(&self) -> (usize, usize)
-        ensures { result ≡ (
-          length (filter (λ slot. is_some (kept_by self.now.tracks (Some slot)).birth) self.now.table.slots),
-          length (filter (λ slot. option_map_or (λ birth. birth == (kept_by self.now.tracks (Some slot)).by) (kept_by self.now.tracks (Some slot)).birth false) self.now.table.slots),
-        ) }
+        ensures held { result.0 ≡ length (filter (λ slot. is_some (kept_by self.now.tracks (Some slot)).birth) self.now.table.slots) }
+        ensures active { result.1 ≡ length (filter (λ slot. option_map_or (λ birth. birth == (kept_by self.now.tracks (Some slot)).by) (kept_by self.now.tracks (Some slot)).birth false) self.now.table.slots) }
     {
         let (mut held, mut active) = (0, 0);
         for slot in self.slots.as_slice() {
